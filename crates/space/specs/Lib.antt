@@ -1,0 +1,4 @@
+pub mod Meaning
+pub mod Recording
+pub mod Boxes
+pub mod Refusal
