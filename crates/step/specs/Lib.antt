@@ -1,0 +1,3 @@
+pub mod Direction
+pub mod Rule
+pub mod Space
