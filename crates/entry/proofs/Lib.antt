@@ -1,0 +1,4 @@
+pub mod Counting
+pub mod Newlines
+pub mod Spaces
+pub mod Three
