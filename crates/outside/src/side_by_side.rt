@@ -10,6 +10,7 @@ use ratio::RatioRecorded;
 use ratio::RatioSpace;
 use space::Recorded;
 use space::Space;
+use space::point_bytes;
 use std::test::*;
 use step::Direction;
 use step::StepGrid;
@@ -78,6 +79,7 @@ fn delay_beside_life() -> Result<(), Fail> {
     let mut bytes = [9u8; 8];
     check(space.write(&p, &mut bytes).is_ok())?;
     check_eq(bytes, [0, 0, 4, 76, 0, 0, 0, 120])?;
+    check_eq(point_bytes(&space, &p)[7], 120)?;
     let Ok(back) = space.read(&bytes) else {
         return check(false);
     };

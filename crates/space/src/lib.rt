@@ -10,6 +10,7 @@ pub use recording::Recorded;
 pub use recording::Unread;
 pub use recording::Unwritten;
 pub use recording::blank;
+pub use recording::point_bytes;
 pub use recording::read_or_blank;
 pub use refusal::BadGrid;
 pub use refusal::BadGridDebug;

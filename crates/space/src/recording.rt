@@ -1,6 +1,8 @@
 // A space whose points are also bytes: exactly four an objective, the highest byte of each figure first.
 ghost use mathlib.Core.Path.{_≡_};
 ghost use mathlib.Core.Bool.{true};
+ghost use Prim.Native.Nat.{_≤_};
+ghost use lib.ListN.{length, take};
 ghost use Rattle.space.specs.Recording.{Recording, Faithful, Four-each, Writable-if-admitted, as-wide, blank-point, read-answer, read-point, write-answer, written-over};
 use crate::meaning::Space;
 
@@ -59,4 +61,24 @@ pub fn blank<S: Recorded>(space: &S) -> S::Point
         Ok(point) => point,
         Err(unread) => unread.blank,
     }
+}
+
+// Writes the point over the front of a longer part.
+fn write_front<S: Recorded>(space: &S, p: &S::Point, width: usize, out: &mut [u8])
+    requires { ⌜ width ≡ S·Recorded .recording (now space) .width ⌝ ∗ ⌜ width ≤ length (now out) ⌝ }
+    ensures front { λ _. ⌜ take width (now (out .exit)) ≡ S·Recorded .recording (now (space .entry)) .writes (now (p .entry)) ⌝ }
+    ensures writable { λ _. ⌜ Writable-if-admitted (S·Space .meaning (now (space .entry))) (S·Recorded .recording (now (space .entry))) (now (p .entry)) ⌝ }
+{
+    let _ = space.write(p, &mut out[0..width]);
+}
+
+// The bytes of a point, in front: no point takes more than 24. It serves whoever has no part of the right length at hand,
+// and tells of every admitted point that it is writable.
+pub fn point_bytes<S: Recorded>(space: &S, p: &S::Point) -> [u8; 24]
+    ensures front { λ r. ⌜ take (S·Recorded .recording (now (space .entry)) .width) r ≡ S·Recorded .recording (now (space .entry)) .writes (now (p .entry)) ⌝ }
+    ensures writable { λ _. ⌜ Writable-if-admitted (S·Space .meaning (now (space .entry))) (S·Recorded .recording (now (space .entry))) (now (p .entry)) ⌝ }
+{
+    let mut bytes = [0; 24];
+    write_front(space, p, space.width(), &mut bytes);
+    bytes
 }
