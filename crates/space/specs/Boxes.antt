@@ -1,5 +1,5 @@
 -- How points and their boxes compare: relations, which statements speak of, and the same as tests, which steps are made of.
-use Rattle.std.specs.Prelude.{◌≡◌, ℕ, zero, suc, ◌<◌, ◌≤◌, Bool, true, false, not, ◌&&◌, leb}
+use Rattle.std.specs.Prelude.{◌≡◌, ℕ, ◌<◌, ◌≤◌, true, false}
 use Rattle.space.specs.Meaning.{Meaning}
 
 -- p dominates q: no worse, and not the other way round

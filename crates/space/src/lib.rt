@@ -1,5 +1,7 @@
 // What every archive rests on: a space of points in which trials are compared, by its whole meaning
 // and the laws that it keeps, and the second trait of those spaces whose points are also bytes.
+#![tactic(auto)]
+
 mod meaning;
 mod recording;
 mod refusal;
