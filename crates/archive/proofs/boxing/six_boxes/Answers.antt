@@ -10,7 +10,7 @@ loop-i-preserved g c =
     let boxes = c.loop-i.boxes in
     let i = c.loop-i.i in
     let more = fill_by_more asked boxes i 0 (omega (arith, c.loop-i.invariant.0, c.loop-i-test.true)) c.loop-i.invariant.1 in
-    (length-set boxes i c.box-number.result ∙ c.loop-i.invariant.0, subst (λ v. (k : ℕ) → k < i + 1 → get_or (set boxes i v) k 0 ≡ asked k) (sym c.box-number.ensures) more)
+    (length-set boxes i c.box_number.result ∙ c.loop-i.invariant.0, subst (λ v. (k : ℕ) → k < i + 1 → get_or (set boxes i v) k 0 ≡ asked k) (sym c.box_number.ensures) more)
 
 pub returns : goal.returns
 returns g c =

@@ -30,7 +30,7 @@ loop-i-preserved g c =
       | in-default w ↦
           closing_up_stays c.loop-i.invariant x c.match-classify.rows c.match-classify.gone c.match-classify.stay c.match-classify.went inside read
           (not_below_from M t x (λ e. w.in-default.not-Below (c.classify.ensures ∙ e)))
-          (w.rows-is ∙ w.copy-row.ensures.after ∙ ap (set rows c.loop-i.stay) (w.copy-row.ensures.row ∙ get_or_default rows i w.copy-row.result d inside))
+          (w.rows-is ∙ w.copy_row.ensures.after ∙ ap (set rows c.loop-i.stay) (w.copy_row.ensures.row ∙ get_or_default rows i w.copy_row.result d inside))
           w.gone-is
           w.stay-is
           w.went-is

@@ -4,9 +4,9 @@ use Rattle.entry.proofs.reading.read_fields.Goals as goal
 
 pub returns : goal.returns
 returns c =
-    let first = c.next-field.ensures in
-    let second = c.next-field-2.ensures in
-    let third = c.next-field-3.ensures in
-    let count = sym c.count-fields-count.ensures ∙ c.if-count-ne3.false in
+    let first = c.next_field.ensures in
+    let second = c.next_field-2.ensures in
+    let third = c.next_field-3.ensures in
+    let count = sym c.count_fields-count.ensures ∙ c.if-count-ne3.false in
     let says = three_fields _ _ _ _ _ _ _ first.parts first.none second.parts second.none third.parts third.none count in
     cc

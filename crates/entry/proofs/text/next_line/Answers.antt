@@ -5,17 +5,17 @@ use Rattle.entry.proofs.text.next_line.Goals as goal
 
 pub returns-in-empty : goal.returns-in-empty
 returns-in-empty c =
-    let end = c.line-end.ensures in
-    let parts = parted c.args.text.now c.line-end.result end.within end.before end.found in
-    let split = c.split-at.ensures in
-    let empty : length c.split-at.result.1.now ≡ 0 = grind arith in
-    let none : c.split-at.result.1.now ≡ [] = nil_from_length _ empty in
+    let end = c.line_end.ensures in
+    let parts = parted c.args.text.now c.line_end.result end.within end.before end.found in
+    let split = c.split_at.ensures in
+    let empty : length c.split_at.result.1.now ≡ 0 = grind arith in
+    let none : c.split_at.result.1.now ≡ [] = nil_from_length _ empty in
     let still = ap (drop 1) none in
     record { line = split.front ∙ parts.0; rest = cc }
 
 pub returns-in-len1-up : goal.returns-in-len1-up
 returns-in-len1-up c =
-    let end = c.line-end.ensures in
-    let parts = parted c.args.text.now c.line-end.result end.within end.before end.found in
-    let split = c.split-at.ensures in
-    record { line = split.front ∙ parts.0; rest = take_rest c.split-at.result.1.now 1 ∙ ap (drop 1) split.back ∙ parts.1 }
+    let end = c.line_end.ensures in
+    let parts = parted c.args.text.now c.line_end.result end.within end.before end.found in
+    let split = c.split_at.ensures in
+    record { line = split.front ∙ parts.0; rest = take_rest c.split_at.result.1.now 1 ∙ ap (drop 1) split.back ∙ parts.1 }

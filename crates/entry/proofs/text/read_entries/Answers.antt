@@ -13,16 +13,16 @@ some_left c = grind (arith, nat_tests)
 pub loop-rest-smaller : goal.loop-rest-smaller
 loop-rest-smaller c =
     let less = after_less c.loop-rest.rest.now (some_left c) in
-    let is = ap length c.next-line.ensures.rest in
+    let is = ap length c.next_line.ensures.rest in
     omega arith
 
 pub loop-rest-preserved : goal.loop-rest-preserved
 loop-rest-preserved c =
     let more = said_more c.loop-rest.rest.now (some_left c) in
     let pushed = c.in-ok-push.ensures.items in
-    let moved = append_assoc (vec_items c.loop-rest.entries) (c.read-entry.result ∷ []) (entries_of c.next-line.result.1.now) in
-    let says = c.read-entry.ensures ∙ ap entry_of c.next-line.ensures.line in
-    let rest = ap entries_of c.next-line.ensures.rest in
+    let moved = append_assoc (vec_items c.loop-rest.entries) (c.read_entry.result ∷ []) (entries_of c.next_line.result.1.now) in
+    let says = c.read_entry.ensures ∙ ap entry_of c.next_line.ensures.line in
+    let rest = ap entries_of c.next_line.ensures.rest in
     cc
 
 pub returns : goal.returns

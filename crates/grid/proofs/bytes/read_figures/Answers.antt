@@ -9,9 +9,9 @@ pub loop-i-preserved : goal.loop-i-preserved
 loop-i-preserved g c =
     let B = g.F-as-Figure.bits in
     let figures = c.loop-i.figures in
-    let said : c.from-bits.result ≡ B.from (number_at c.args.bytes.now c.loop-i.i) = cc in
+    let said : c.from_bits.result ≡ B.from (number_at c.args.bytes.now c.loop-i.i) = cc in
     let more = fill_by_more (λ i. B.from (number_at c.args.bytes.now i)) figures c.loop-i.i B.zero (omega (arith, c.loop-i.invariant.0, c.loop-i-test.true)) c.loop-i.invariant.1 in
-    (length-set figures c.loop-i.i c.from-bits.result ∙ c.loop-i.invariant.0, subst (λ v. (k : ℕ) → k < c.loop-i.i + 1 → get_or (set figures c.loop-i.i v) k B.zero ≡ B.from (number_at c.args.bytes.now k)) (sym said) more)
+    (length-set figures c.loop-i.i c.from_bits.result ∙ c.loop-i.invariant.0, subst (λ v. (k : ℕ) → k < c.loop-i.i + 1 → get_or (set figures c.loop-i.i v) k B.zero ≡ B.from (number_at c.args.bytes.now k)) (sym said) more)
 
 pub returns : goal.returns
 returns g c =

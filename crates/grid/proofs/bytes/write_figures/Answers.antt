@@ -11,9 +11,9 @@ loop-k-preserved g c =
     let out = c.loop-k.out in (
       subst
           (λ v. (j : ℕ) → j < c.loop-k.k + 1 → get_or (set out c.loop-k.k v) j 0 ≡ byte_at B p j)
-          (sym c.byte-of.ensures.value)
+          (sym c.byte_of.ensures.value)
           (fill_by_more (byte_at B p) out c.loop-k.k 0 (omega (arith, c.loop-k.auto.out, c.loop-k-test.true)) c.loop-k.invariant.0),
-      below_more _ _ c.loop-k.invariant.1 c.byte-of.ensures.held,
+      below_more _ _ c.loop-k.invariant.1 c.byte_of.ensures.held,
     )
 
 pub returns : goal.returns

@@ -3,8 +3,8 @@ use Rattle.grid.specs.Space.{admits_at}
 use Rattle.grid.proofs.Tests.{all_below_from, all_below_fails}
 use Rattle.grid.proofs.compare.admits_below.Goals as goal
 
-pub returns-then-not-admits-at : goal.returns-then-not-admits-at
-returns-then-not-admits-at g c =
+pub returns-then-not-admits_at : goal.returns-then-not-admits_at
+returns-then-not-admits_at g c =
     let test = admits_at g.Figure-as-Figure.bits (map g.A.Axis.line c.args.axes.now) c.args.p.now in
     let fails : test c.loop-i.i ≡ false = cc in
     sym (all_below_fails test c.args.n c.loop-i.i c.loop-i-test.true fails)

@@ -20,9 +20,9 @@ returns-then-after-length c =
 pub returns-in-err-record : goal.returns-in-err-record
 returns-in-err-record c =
     let p = err_from_is_err_and c.from-residual.result c.from-residual.ensures.1 in
-    let told = first_told c.args.objectives c.args.rest.now c.from-length.result c.place-place.result c.split-at.result.0.now c.split-at.result.1.now (Err c.in-err-record.field-0.0) (search rules) c.from-length.ensures c.if-after-length.false c.place-place.ensures c.split-at.ensures.front c.split-at.ensures.back c.in-err-record.ensures in
+    let told = first_told c.args.objectives c.args.rest.now c.from-length.result c.place-place.result c.split_at.result.0.now c.split_at.result.1.now (Err c.in-err-record.field-0.0) (search rules) c.from-length.ensures c.if-after-length.false c.place-place.ensures c.split_at.ensures.front c.split_at.ensures.back c.in-err-record.ensures in
     rw (p.1, p.2) (sym told)
 
 pub returns : goal.returns
 returns c =
-    sym (first_told c.args.objectives c.args.rest.now c.from-length.result c.place-place.result c.split-at.result.0.now c.split-at.result.1.now (Ok (seen c.in-ok-record.record)) (search rules) c.from-length.ensures c.if-after-length.false c.place-place.ensures c.split-at.ensures.front c.split-at.ensures.back c.in-ok-record.ensures)
+    sym (first_told c.args.objectives c.args.rest.now c.from-length.result c.place-place.result c.split_at.result.0.now c.split_at.result.1.now (Ok (seen c.in-ok-record.record)) (search rules) c.from-length.ensures c.if-after-length.false c.place-place.ensures c.split_at.ensures.front c.split_at.ensures.back c.in-ok-record.ensures)

@@ -3,4 +3,4 @@ use Rattle.log_block.proofs.reading.place.Goals as goal
 
 pub returns : goal.returns
 unfolding place_of
-returns c = c.saturating-sub.ensures
+returns c = c.saturating_sub.ensures

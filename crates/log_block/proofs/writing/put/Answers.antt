@@ -8,5 +8,5 @@ returns c =
     let bytes = c.args.bytes.now in
     let at = c.args.at in
     let size : at + length bytes - at ≡ length bytes = omega arith in
-    ap (λ xs. take at block ++ (xs ++ drop (at + length bytes - at) (drop at block))) c.copy-from-slice.ensures.after
+    ap (λ xs. take at block ++ (xs ++ drop (at + length bytes - at) (drop at block))) c.copy_from_slice.ensures.after
     ∙ (ap (λ k. take at block ++ (bytes ++ drop k (drop at block))) size ∙ ap (λ xs. take at block ++ (bytes ++ xs)) (drop-drop (length bytes) at block))

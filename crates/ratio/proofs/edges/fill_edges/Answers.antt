@@ -18,7 +18,7 @@ loop-edge-preserved c =
     let inv = c.loop-edge.invariant in
     let some : 1 ≤ c.args.scale.ceiling = grind (arith, nat_tests) in
     let within = inv.3 c.loop-edge-test.true in
-    let step = c.next-edge-edge.ensures ∙ ap (after p) inv.1 ∙ sym (edge_more p n) in (
+    let step = c.next_edge-edge.ensures ∙ ap (after p) inv.1 ∙ sym (edge_more p n) in (
       omega arith,
       step,
       rw inv.1 (fill_by_more (edge p) c.loop-edge.edges n 0 (omega arith) inv.2),

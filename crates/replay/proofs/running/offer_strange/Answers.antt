@@ -13,17 +13,17 @@ returns g c =
     let lent = c.args.lent in
     let list = c.args.list.now in
     let room = c.args.room in
-    let part = c.offer-over.new.rows in
+    let part = c.offer_over.new.rows in
     let first = from_nothing strange part lent in
     let long = ap length first ∙ length-take-le lent strange c.requires.1.0 in
-    let same = strange_untouched M c.args.trial (lending c.args.archive.now (take (lent - 0) strange) (take room list)) (lending c.offer-over.new.archive part (take room c.offer-over.new.list)) c.offer-over.result c.offer-over.ensures.right (λ e. c.requires.1.1 (sym long ∙ e)) in
+    let same = strange_untouched M c.args.trial (lending c.args.archive.now (take (lent - 0) strange) (take room list)) (lending c.offer_over.new.archive part (take room c.offer_over.new.list)) c.offer_over.result c.offer_over.ensures.right (λ e. c.requires.1.1 (sym long ∙ e)) in
     let kept : part ≡ take lent strange = same.1 ∙ first in
     let size : lent - 0 ≡ lent = omega arith in
     record {
-      space = c.offer-over.ensures.space;
-      right = subst (λ xs. OfferRight M c.args.trial (lending c.args.archive.now xs (take room list)) c.offer-over.result (lending c.offer-over.new.archive (take lent strange) (take room list))) first
-          (subst (λ xs. OfferRight M c.args.trial (lending c.args.archive.now (take (lent - 0) strange) (take room list)) c.offer-over.result (lending c.offer-over.new.archive xs (take room list))) kept
-          (subst (λ ys. OfferRight M c.args.trial (lending c.args.archive.now (take (lent - 0) strange) (take room list)) c.offer-over.result (lending c.offer-over.new.archive part ys)) same.2 c.offer-over.ensures.right));
+      space = c.offer_over.ensures.space;
+      right = subst (λ xs. OfferRight M c.args.trial (lending c.args.archive.now xs (take room list)) c.offer_over.result (lending c.offer_over.new.archive (take lent strange) (take room list))) first
+          (subst (λ xs. OfferRight M c.args.trial (lending c.args.archive.now (take (lent - 0) strange) (take room list)) c.offer_over.result (lending c.offer_over.new.archive xs (take room list))) kept
+          (subst (λ ys. OfferRight M c.args.trial (lending c.args.archive.now (take (lent - 0) strange) (take room list)) c.offer_over.result (lending c.offer_over.new.archive part ys)) same.2 c.offer_over.ensures.right));
       strange = ap (λ xs. xs ++ drop (lent - 0) strange) kept ∙ (ap (λ k. take lent strange ++ drop k strange) size ∙ take-append-drop lent strange);
-      list = c.offer-over.ensures.rest ∙ (ap (λ xs. xs ++ drop room list) same.2 ∙ take-append-drop room list);
+      list = c.offer_over.ensures.rest ∙ (ap (λ xs. xs ++ drop room list) same.2 ∙ take-append-drop room list);
     }

@@ -13,15 +13,15 @@ returns-then-lent-own g c =
     let list = c.args.list.now in
     let room = c.min-room.result in
     let within : room ≤ length list = search rules in
-    let after = c.offer-over.new.list in
+    let after = c.offer_over.new.list in
     let long : length (take room after) ≡ room = length-take-le room after (search rules) in
     let call = same_offer _ _ _ _ t (sym c.if-lent-own.true ∙ c.lent-lent.ensures) c.min-room.ensures in
     record {
-      space = c.offer-over.ensures.space;
+      space = c.offer_over.ensures.space;
       strange = refl;
       ran = as_asked M _ _ _ _ _ _ call c.offered.ensures
-          (over_same M _ _ _ (lending c.offer-over.new.archive c.offer-over.new.rows after) c.offer-over.new.rows _ after c.offer-over.ensures.rest
-          (ran_offer M t (lending c.args.archive.now own (take room list)) (lending c.offer-over.new.archive c.offer-over.new.rows (take room after)) c.offer-over.result c.offer-over.ensures.right list room within refl long));
+          (over_same M _ _ _ (lending c.offer_over.new.archive c.offer_over.new.rows after) c.offer_over.new.rows _ after c.offer_over.ensures.rest
+          (ran_offer M t (lending c.args.archive.now own (take room list)) (lending c.offer_over.new.archive c.offer_over.new.rows (take room after)) c.offer_over.result c.offer_over.ensures.right list room within refl long));
     }
 
 pub returns-else-lent-own : goal.returns-else-lent-own
@@ -39,9 +39,9 @@ returns-else-lent-own g c =
     let front : length (take room list) ≡ room = length-take-le room list within in
     let call = same_offer _ _ _ _ t (rows ∙ c.lent-lent.ensures) (front ∙ c.min-room.ensures) in
     record {
-      space = c.offer-strange.ensures.space;
-      strange = c.offer-strange.ensures.strange;
+      space = c.offer_strange.ensures.space;
+      strange = c.offer_strange.ensures.strange;
       ran = as_asked M _ _ _ _ _ _ call c.offered-else-lent-own.ensures
-          (over_same M _ _ _ (lending c.offer-strange.new.archive own list) own list c.offer-strange.new.list c.offer-strange.ensures.list
-          (ran_offer_strange M (lending c.args.archive.now (take lent strange) (take room list)) own list (λ e. c.if-lent-own.false (sym rows ∙ (e ∙ sym c.requires))) t (lending c.offer-strange.new.archive (take lent strange) (take room list)) c.offer-strange.result c.offer-strange.ensures.right));
+          (over_same M _ _ _ (lending c.offer_strange.new.archive own list) own list c.offer_strange.new.list c.offer_strange.ensures.list
+          (ran_offer_strange M (lending c.args.archive.now (take lent strange) (take room list)) own list (λ e. c.if-lent-own.false (sym rows ∙ (e ∙ sym c.requires))) t (lending c.offer_strange.new.archive (take lent strange) (take room list)) c.offer_strange.result c.offer_strange.ensures.right));
     }

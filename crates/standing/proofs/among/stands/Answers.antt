@@ -1,6 +1,6 @@
 use Rattle.standing.proofs.among.stands.Goals as goal
 
-pub returns-then-on-grid : goal.returns-then-on-grid
-returns-then-on-grid g c =
-    let on = c.on_grid.ensures.0 c.if-on-grid.true in
-    (λ e. (on, c.none-of.ensures.0 e), λ h. c.none-of.ensures.1 h.1)
+pub returns-then-on_grid : goal.returns-then-on_grid
+returns-then-on_grid g c =
+    let on = c.on_grid.ensures.0 c.if-on_grid.true in
+    (λ e. (on, c.none_of.ensures.0 e), λ h. c.none_of.ensures.1 h.1)

@@ -10,4 +10,4 @@ pub returns : goal.returns
 returns g c =
     let a = c.args.self.now in
     let M = g.S.Space.meaning a.space in
-    audit_right _ (g.met.S.Space.lawful a.space) _ _ (ap (λ p. Ok p) (c.first_fault.ensures ∙ ap (first_pair M) c.split-at.ensures.front) ∙ sym (own a.rows (length c.args.rows.now) _ c.if-rows-self.false))
+    audit_right _ (g.met.S.Space.lawful a.space) _ _ (ap (λ p. Ok p) (c.first_fault.ensures ∙ ap (first_pair M) c.split_at.ensures.front) ∙ sym (own a.rows (length c.args.rows.now) _ c.if-rows-self.false))

@@ -20,8 +20,8 @@ returns g c =
     let rows = c.args.rows.now in
     let tags = c.args.tags.now in
     let full : length (take a.count rows) ≡ a.count = length-take-le a.count rows (search rules) in
-    let front = c.split-at.ensures.front in
-    let size : length c.split-at.result.0.now ≡ a.count = ap length front ∙ full in
+    let front = c.split_at.ensures.front in
+    let size : length c.split_at.result.0.now ≡ a.count = ap length front ∙ full in
     list_right _ (g.met.S.Space.lawful a.space) _ _ _
     (list_granted a.rows (length rows) (length tags) a.count (take a.count rows) c.if-rows-self.false (sym full) c.if-tags-self.false)
-    (c.write-tags.ensures ∙ (ap (λ ms. tags_of ms ++ drop (length c.split-at.result.0.now) tags) front ∙ ap (λ n. tags_of (take a.count rows) ++ drop n tags) size))
+    (c.write_tags.ensures ∙ (ap (λ ms. tags_of ms ++ drop (length c.split_at.result.0.now) tags) front ∙ ap (λ n. tags_of (take a.count rows) ++ drop n tags) size))

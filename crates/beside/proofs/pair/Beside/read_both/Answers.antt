@@ -9,6 +9,6 @@ returns g c =
     let R = g.A.Recorded.recording s.first in
     let S = g.B.Recorded.recording s.second in
     let fits = fit (g.A.Space.meaning s.first) (g.B.Space.meaning s.second) in
-    let some : 0 < S.width = omega (arith, c.read-or-blank-2.ensures.four_each, (g.met.B.Space.lawful s.second).few.0) in
+    let some : 0 < S.width = omega (arith, c.read_or_blank-2.ensures.four_each, (g.met.B.Space.lawful s.second).few.0) in
     let both = pair_read R S fits c.args.bytes.now some c.requires.0 in
     cc

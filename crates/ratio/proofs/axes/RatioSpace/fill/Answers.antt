@@ -12,6 +12,6 @@ returns c =
     let p = c.args.p.now in
     let six : length p ≡ 6 = search rules in
     record {
-      after = c.write-figures.ensures.after ∙ ap (λ n. map (byte_at unsigned_bits p) (range_with_len 0 n)) c.requires;
-      writable = writable_rules unsigned_bits axis_line s.axes s.objectives (omega (arith, s.few)) unsigned_exact unsigned_zero_held p six (λ k l. c.write-figures.ensures.held k (omega (arith, c.requires)));
+      after = c.write_figures.ensures.after ∙ ap (λ n. map (byte_at unsigned_bits p) (range_with_len 0 n)) c.requires;
+      writable = writable_rules unsigned_bits axis_line s.axes s.objectives (omega (arith, s.few)) unsigned_exact unsigned_zero_held p six (λ k l. c.write_figures.ensures.held k (omega (arith, c.requires)));
     }

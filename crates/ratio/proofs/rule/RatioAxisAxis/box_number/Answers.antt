@@ -8,6 +8,6 @@ returns-then-admits c =
     let a = c.args.self.now in
     let v = c.args.v in
     record {
-      value = c.find-box.ensures ∙ sym (cond-true _ _ _ (sym c.if-admits.ensures));
-      enclosed = λ low high. rw c.find-box.ensures (box_holds a.scale.per_cent v low);
+      value = c.find_box.ensures ∙ sym (cond-true _ _ _ (sym c.if-admits.ensures));
+      enclosed = λ low high. rw c.find_box.ensures (box_holds a.scale.per_cent v low);
     }
