@@ -8,7 +8,7 @@ use Rattle.space.specs.Meaning.{Lawful}
 use Rattle.grid.specs.Bits.{Bits, Exact, signed_bits, unsigned_bits}
 use Rattle.grid.specs.Bytes.{all_held, figures_read, number_at, sextuple, zero_from}
 use Rattle.grid.specs.Line.{Line, LineLawful}
-use Rattle.grid.specs.Space.{admits_at, all_below, figure_at, grid_meaning}
+use Rattle.grid.specs.Space.{admits_at, figure_at, grid_meaning}
 use Rattle.grid.proofs.Laws.{lawful_grid, past_the_last}
 use Rattle.grid.proofs.Tests.{all_below_each, all_below_from}
 

@@ -1,10 +1,10 @@
 -- A grid keeps the laws where each of its lines does.
-use Rattle.std.proofs.Common.{◌≡◌, ℕ, ◌<◌, ◌≤◌, Bool, true, false, cond, List, [], length, get_or, sym, refl, ap, subst, ⊎_elim, arith}
+use Rattle.std.proofs.Common.{◌≡◌, ℕ, ◌<◌, ◌≤◌, true, List, length, sym, refl, ap, subst, ⊎_elim, arith}
 use Rattle.std.proofs.lemmas.List.{get_or_past}
 use Rattle.std.proofs.lemmas.Bool.{cond-true, cond-false, cond_both, cases_lt}
 use Rattle.std.specs.List.{AllByRecursion as All}
 use Rattle.std.proofs.ByRecursion.{All-get_or}
-use Rattle.space.specs.Meaning.{Meaning, Lawful}
+use Rattle.space.specs.Meaning.{Lawful}
 use Rattle.grid.specs.Bits.{Bits}
 use Rattle.grid.specs.Line.{Line, LineLawful}
 use Rattle.grid.specs.Space.{unused, line_at, figure_at, admits_at, no_worse_at, covers_at, box_at, grid_meaning}

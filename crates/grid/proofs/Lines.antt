@@ -1,7 +1,6 @@
 -- The lines of a grid, by its rules.
-use Rattle.std.proofs.Common.{◌≡◌, ℕ, ◌<◌, ◌≤◌, Bool, cond, List, map, length, get_or, sym, refl, ap, arith}
+use Rattle.std.proofs.Common.{◌≡◌, ℕ, ◌<◌, ◌≤◌, List, map, length, get_or, arith}
 use Rattle.std.proofs.lemmas.List.{get_or-map, length-map}
-use Rattle.std.proofs.lemmas.Bool.{cond_both}
 use Rattle.grid.specs.Bits.{Bits}
 use Rattle.grid.specs.Line.{Line}
 use Rattle.grid.specs.Space.{unused, line_at}

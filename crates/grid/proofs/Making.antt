@@ -1,8 +1,7 @@
 -- How a grid is made from its scales, one after the other.
-use Rattle.std.proofs.Common.{◌≡◌, ℕ, ◌+◌, ◌<◌, ◌≤◌, Bool, true, false, cond, ◌&&◌, leb, List, [], ◌∷◌, ◌++◌, map, length, get_or, take, drop, set, replicate, Some, None, Option, sym, refl, ap, ◌∙◌, subst, ⊎_elim, arith}
+use Rattle.std.proofs.Common.{◌≡◌, ℕ, ◌+◌, ◌<◌, ◌≤◌, Bool, true, false, cond, ◌&&◌, leb, List, map, length, get_or, take, drop, set, replicate, Some, None, sym, refl, ap, ◌∙◌, subst, ⊎_elim, arith}
 use Rattle.std.proofs.lemmas.List.{take_more_set, take_all, at_drop_more, at_drop_all, map_push, map_more, length-set}
 use Rattle.std.proofs.lemmas.Bool.{cases_Bool, cond-true, cond-false, le-leb, and_from}
-use Rattle.space.specs.declared.refusal.BadGrid.{BadGrid}
 use Rattle.space.specs.declared.refusal.BadGrid.TheVariants.{Objectives, Objective}
 use Rattle.grid.specs.Line.{Line}
 use Rattle.grid.specs.Making.{first_fault, grid_fault}

@@ -1,15 +1,14 @@
 -- The bytes of a grid's points keep the laws of a recording.
-use Rattle.std.proofs.Common.{◌≡◌, ℕ, zero, suc, ◌+◌, ◌*◌, ◌/◌, ◌%◌, ◌^◌, ◌<◌, ◌≤◌, Bool, true, false, ◌&&◌, ◌||◌, eqb, ltb, List, [], ◌∷◌, map, length, get_or, sym, refl, ap, ◌∙◌, subst, ⊎_elim, add-zero, arith}
+use Rattle.std.proofs.Common.{◌≡◌, ℕ, zero, suc, ◌+◌, ◌*◌, ◌/◌, ◌%◌, ◌^◌, ◌<◌, ◌≤◌, true, ◌&&◌, ◌||◌, eqb, ltb, List, [], ◌∷◌, length, get_or, sym, refl, ap, ◌∙◌, subst, ⊎_elim, add-zero, arith}
 use native.Mathlib.Nat.{div-div-eq-div-mul}
 use Rattle.std.proofs.lemmas.Nat.{div-add-mod'}
-use Rattle.std.specs.List.{range_with_len}
 use Rattle.std.proofs.lemmas.List.FromFn.{length-map-range_with_len, get_or-map-range_with_len, fill_by_all}
-use Rattle.std.proofs.lemmas.List.{same_lists, get_or_past, get_or_default}
+use Rattle.std.proofs.lemmas.List.{get_or_past}
 use Rattle.std.proofs.ByRecursion.{All-get_or}
-use Rattle.std.proofs.lemmas.Bool.{and_parts, or_cases, eqb-true, ltb-true, cases_lt, both_ways, le-ltb}
-use Rattle.space.specs.Recording.{Recording, Bytes, Faithful}
+use Rattle.std.proofs.lemmas.Bool.{and_parts, or_cases, eqb-true, cases_lt, both_ways, le-ltb}
+use Rattle.space.specs.Recording.{Bytes, Faithful}
 use Rattle.grid.specs.Bits.{Bits, Exact}
-use Rattle.grid.specs.Space.{figure_at, all_below}
+use Rattle.grid.specs.Space.{figure_at}
 use Rattle.grid.specs.Bytes.{number_at, four_bytes, figures_read, byte_at, all_held, zero_from, sextuple, grid_recording}
 use Rattle.grid.proofs.Tests.{all_below_each}
 

@@ -1,5 +1,7 @@
 // Grids: points of up to six figures of 32 bits, each objective divided by a rule of its own.
 // What every grid does is written once here, over any rule; a space of the house holds its rules and asks this.
+#![tactic(auto)]
+
 mod axis;
 mod bytes;
 mod compare;

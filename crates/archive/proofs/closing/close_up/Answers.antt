@@ -3,7 +3,7 @@ use Rattle.std.proofs.lemmas.List.{get_or_default}
 use Rattle.archive.proofs.Decided.{below_from, not_below_from}
 use Rattle.archive.proofs.Closed.{closing_up_none, closing_up_goes, closing_up_stays, closing_up_all}
 use Rattle.archive.proofs.closing.close_up.Goals as goal
-use Rattle.archive.proofs.closing.close_up.Goals.{in-Below, in-default}
+use Rattle.archive.proofs.closing.close_up.Goals.{in-Below, in_default}
 
 pub loop-i-init : goal.loop-i-init
 loop-i-init g c = closing_up_none _ _ _
@@ -27,9 +27,9 @@ loop-i-preserved g c =
           (w.gone-is ∙ ap (λ y. set c.loop-i.gone c.loop-i.went y.tag) (get_or_default rows i w.index-rows-i-in-Below.result d inside))
           w.stay-is
           w.went-is
-      | in-default w ↦
+      | in_default w ↦
           closing_up_stays c.loop-i.invariant x c.match-classify.rows c.match-classify.gone c.match-classify.stay c.match-classify.went inside read
-          (not_below_from M t x (λ e. w.in-default.not-Below (c.classify.ensures ∙ e)))
+          (not_below_from M t x (λ e. w.in_default.not-Below (c.classify.ensures ∙ e)))
           (w.rows-is ∙ w.copy_row.ensures.after ∙ ap (set rows c.loop-i.stay) (w.copy_row.ensures.row ∙ get_or_default rows i w.copy_row.result d inside))
           w.gone-is
           w.stay-is

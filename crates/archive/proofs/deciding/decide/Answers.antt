@@ -15,7 +15,7 @@ pub loop-i-preserved : goal.loop-i-preserved
 loop-i-preserved g c =
     let M = g.S.Space.meaning c.args.space.now in
     let members = c.args.members.now in (
-      none_more M c.args.trial.now members c.loop-i.i c.index-members-i.result c.loop-i.decision c.join-decision.result c.classify.result c.loop-i-test.true c.index-members-i.is c.loop-i.invariant.0 c.loop-i.invariant.1 c.classify.ensures c.join-decision.ensures c.in-default.not-Displace,
+      none_more M c.args.trial.now members c.loop-i.i c.index-members-i.result c.loop-i.decision c.join-decision.result c.classify.result c.loop-i-test.true c.index-members-i.is c.loop-i.invariant.0 c.loop-i.invariant.1 c.classify.ensures c.join-decision.ensures c.in_default.not-Displace,
       decision_more M c.args.trial.now members c.loop-i.i c.index-members-i.result c.loop-i.decision c.join-decision.result c.classify.result c.loop-i-test.true c.index-members-i.is c.loop-i.invariant.0 c.loop-i.invariant.1 c.classify.ensures c.join-decision.ensures,
     )
 

@@ -7,7 +7,7 @@ use Rattle.entry.proofs.Newlines.{said_more, after_less}
 use Rattle.entry.proofs.text.read_entries.Goals as goal
 
 -- a line is left where the loop goes on
-some_left : (c : goal.In-ok-push) → 0 < length c.loop-rest.rest.now
+some_left : (c : goal.In_ok-push) → 0 < length c.loop-rest.rest.now
 some_left c = grind (arith, nat_tests)
 
 pub loop-rest-smaller : goal.loop-rest-smaller
@@ -19,7 +19,7 @@ loop-rest-smaller c =
 pub loop-rest-preserved : goal.loop-rest-preserved
 loop-rest-preserved c =
     let more = said_more c.loop-rest.rest.now (some_left c) in
-    let pushed = c.in-ok-push.ensures.items in
+    let pushed = c.in_ok-push.ensures.items in
     let moved = append_assoc (vec_items c.loop-rest.entries) (c.read_entry.result ∷ []) (entries_of c.next_line.result.1.now) in
     let says = c.read_entry.ensures ∙ ap entry_of c.next_line.ensures.line in
     let rest = ap entries_of c.next_line.ensures.rest in

@@ -6,7 +6,7 @@ use Rattle.grid.proofs.bytes.write_figures.Goals as goal
 
 pub loop-k-preserved : goal.loop-k-preserved
 loop-k-preserved g c =
-    let B = g.F-as-Figure.bits in
+    let B = g.F.Figure.bits in
     let p = c.args.p.now in
     let out = c.loop-k.out in (
       subst
@@ -19,6 +19,6 @@ loop-k-preserved g c =
 pub returns : goal.returns
 returns g c =
     record {
-      after = fill_by_all (byte_at g.F-as-Figure.bits c.args.p.now) c.loop-k.out (length c.args.out.now) 0 c.loop-k.auto.out (λ k l. c.loop-k.invariant.0 k (omega arith));
+      after = fill_by_all (byte_at g.F.Figure.bits c.args.p.now) c.loop-k.out (length c.args.out.now) 0 c.loop-k.auto.out (λ k l. c.loop-k.invariant.0 k (omega arith));
       held = λ k l. c.loop-k.invariant.1 k (omega arith);
     }

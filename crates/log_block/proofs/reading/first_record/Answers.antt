@@ -5,8 +5,8 @@ use Rattle.log_block.specs.Reading.{seen}
 use Rattle.log_block.proofs.Firsts.{first_cut, first_short, first_told}
 use Rattle.log_block.proofs.reading.first_record.Goals as goal
 
-pub returns-in-default : goal.returns-in-default
-returns-in-default c =
+pub returns-in_default : goal.returns-in_default
+returns-in_default c =
     let short = first_short c.args.objectives c.args.rest.now (search rules) in
     cc
 
@@ -17,12 +17,12 @@ returns-then-after-length c =
     let cut = first_cut c.args.objectives c.args.rest.now (search rules) less in
     cc
 
-pub returns-in-err-record : goal.returns-in-err-record
-returns-in-err-record c =
+pub returns-in_err-record : goal.returns-in_err-record
+returns-in_err-record c =
     let p = err_from_is_err_and c.from-residual.result c.from-residual.ensures.1 in
-    let told = first_told c.args.objectives c.args.rest.now c.from-length.result c.place-place.result c.split_at.result.0.now c.split_at.result.1.now (Err c.in-err-record.field-0.0) (search rules) c.from-length.ensures c.if-after-length.false c.place-place.ensures c.split_at.ensures.front c.split_at.ensures.back c.in-err-record.ensures in
+    let told = first_told c.args.objectives c.args.rest.now c.from-length.result c.place-place.result c.split_at.result.0.now c.split_at.result.1.now (Err c.in_err-record.field-0.0) (search rules) c.from-length.ensures c.if-after-length.false c.place-place.ensures c.split_at.ensures.front c.split_at.ensures.back c.in_err-record.ensures in
     rw (p.1, p.2) (sym told)
 
 pub returns : goal.returns
 returns c =
-    sym (first_told c.args.objectives c.args.rest.now c.from-length.result c.place-place.result c.split_at.result.0.now c.split_at.result.1.now (Ok (seen c.in-ok-record.record)) (search rules) c.from-length.ensures c.if-after-length.false c.place-place.ensures c.split_at.ensures.front c.split_at.ensures.back c.in-ok-record.ensures)
+    sym (first_told c.args.objectives c.args.rest.now c.from-length.result c.place-place.result c.split_at.result.0.now c.split_at.result.1.now (Ok (seen c.in_ok-record.record)) (search rules) c.from-length.ensures c.if-after-length.false c.place-place.ensures c.split_at.ensures.front c.split_at.ensures.back c.in_ok-record.ensures)

@@ -3,16 +3,16 @@ use Rattle.std.proofs.lemmas.List.{append-nil, at_drop_all}
 use Rattle.shortlist.specs.Logger.{trials_of}
 use Rattle.shortlist.proofs.Lines.{told_more, told_none}
 use Rattle.shortlist.proofs.scales.trials_of.Goals as goal
-use Rattle.shortlist.proofs.scales.trials_of.Goals.{in-Ok+in-ok-push, in-default}
+use Rattle.shortlist.proofs.scales.trials_of.Goals.{in-Ok+in_ok-push, in_default}
 
 pub loop-line-preserved : goal.loop-line-preserved
 loop-line-preserved c = elim c.match-line.branch [
-  | in-Ok+in-ok-push w ↦
-      let pushed = w.in-ok-push.ensures.items in
+  | in-Ok+in_ok-push w ↦
+      let pushed = w.in_ok-push.ensures.items in
       let more = told_more (vec_items c.loop-line.trials) c.args.lines.now c.loop-line.line-index _ c.loop-line-test.true w.in-Ok.entry w.in-Ok.is c.loop-line.invariant in
       cc
-  | in-default w ↦
-      let more = told_none (vec_items c.loop-line.trials) c.args.lines.now c.loop-line.line-index _ c.loop-line-test.true _ w.in-default.is c.loop-line.invariant in
+  | in_default w ↦
+      let more = told_none (vec_items c.loop-line.trials) c.args.lines.now c.loop-line.line-index _ c.loop-line-test.true _ w.in_default.is c.loop-line.invariant in
       cc
 ]
 

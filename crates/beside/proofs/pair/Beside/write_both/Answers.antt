@@ -4,8 +4,8 @@ use Rattle.beside.specs.Pair.{fit}
 use Rattle.beside.specs.Recorded.{writes_first, writes_joined, first_width, joined_width, front_lent, back_lent, write_first, write_both, none_admitted, both_writable}
 use Rattle.beside.proofs.pair.Beside.write_both.Goals as goal
 
-pub returns-in-ok-write-2 : goal.returns-in-ok-write-2
-returns-in-ok-write-2 g c =
+pub returns-in_ok-write-2 : goal.returns-in_ok-write-2
+returns-in_ok-write-2 g c =
     let s = c.args.self.now in
     let R = g.A.Recorded.recording s.first in
     let S = g.B.Recorded.recording s.second in

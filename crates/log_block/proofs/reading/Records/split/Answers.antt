@@ -6,8 +6,8 @@ use Rattle.log_block.proofs.reading.Records.split.Goals as goal
 pub returns-then-self-eq0 : goal.returns-then-self-eq0
 returns-then-self-eq0 c = in_none c.args.self.now.objectives c.args.self.now.count c.args.self.now.rest.now c.if-self-eq0.true
 
-pub returns-in-default : goal.returns-in-default
-returns-in-default c = in_fault c.args.self.now.objectives c.args.self.now.count c.args.self.now.rest.now c.in-default.field-0 (sym c.in-default.ensures)
+pub returns-in_default : goal.returns-in_default
+returns-in_default c = in_fault c.args.self.now.objectives c.args.self.now.count c.args.self.now.rest.now c.in_default.field-0 (sym c.in_default.ensures)
 
 pub returns : goal.returns
 returns c =
