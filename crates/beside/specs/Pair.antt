@@ -1,5 +1,5 @@
 -- Two spaces side by side, by their meanings and by their bytes.
-use Rattle.std.specs.Prelude.{◌≡◌, ℕ, ◌+◌, ◌-◌, Bool, false, cond, ◌&&◌, List, ◌++◌, take, drop, nat_le, nat_lt}
+use Rattle.std.specs.Prelude.{◌+◌, ◌-◌, Bool, false, cond, ◌&&◌, ◌++◌, take, drop, nat_le, nat_lt}
 use Rattle.space.specs.Meaning.{Meaning}
 use Rattle.space.specs.Recording.{Recording, blank_point}
 use Rattle.beside.specs.declared.pair.Beside.{Beside}

@@ -1,14 +1,13 @@
 -- The bytes of a pair keep the laws where those of both spaces do.
-use Rattle.std.specs.Prelude.{◌≡◌, ℕ, ◌+◌, ◌-◌, ◌<◌, ◌≤◌, Bool, true, false, cond, ◌&&◌, List, [], ◌++◌, length, take, drop, replicate, Ok, Err, Result, ◌≢◌, refl}
-use Rattle.std.proofs.Common.{sym, ap, subst, ◌∙◌, arith, ⊎_elim}
+use Rattle.std.specs.Prelude.{◌≡◌, ℕ, ◌+◌, ◌-◌, ◌<◌, ◌≤◌, Bool, true, false, cond, List, [], ◌++◌, length, take, drop, replicate, ◌≢◌, refl}
+use Rattle.std.proofs.Common.{sym, ap, ◌∙◌, arith}
 use Rattle.std.proofs.Math.Nat.{add-sub_cancel_left}
 use borrow.Rule.Slice.PartMut.{put_mid, post_of}
 use Rattle.std.proofs.lemmas.List.{append-nil, drop_all, take_all, take_at, take_rest, drop_at, take-append-drop, length-append, length-take, length-drop, take-replicate, drop-replicate}
 use Rattle.std.proofs.ByRecursion.{All-take, All-drop}
 use Rattle.std.proofs.lemmas.Bool.{and_from, and_parts, cond_both, cond-true, cond-false, eq-eqb, ne_eqb, false≢true}
 use Rattle.space.specs.Meaning.{Meaning}
-use Rattle.space.specs.Recording.{Recording, Bytes, Faithful, blank_point, as_wide, read_point, written_over}
-use Rattle.space.specs.declared.recording.Unread.{Unread}
+use Rattle.space.specs.Recording.{Recording, Faithful, blank_point, as_wide, read_point, written_over}
 use Rattle.beside.specs.Pair.{fit, joined, first_alone, pair_meaning, joined_bytes, first_bytes, pair_recording}
 
 -- an admitted pair is writable where both of its points are

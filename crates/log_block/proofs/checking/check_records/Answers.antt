@@ -6,7 +6,7 @@ use Rattle.log_block.proofs.checking.check_records.Goals as goal
 
 pub returns-in_err-after : goal.returns-in_err-after
 returns-in_err-after c =
-    let p = err_from_is_err_and c.from-residual.result c.from-residual.ensures.1 in
+    let p = err_from_is_err_and c.from_residual.result c.from_residual.ensures.1 in
     let fault = check_fault c.args.records.objectives c.loop-count.count c.loop-count.rest.now c.in_err-after.field-0.0 (omega arith) (sym c.in_err-after.ensures) in
     let refused = p.1 in
     let told = p.2 in

@@ -19,7 +19,7 @@ returns-then-after-length c =
 
 pub returns-in_err-record : goal.returns-in_err-record
 returns-in_err-record c =
-    let p = err_from_is_err_and c.from-residual.result c.from-residual.ensures.1 in
+    let p = err_from_is_err_and c.from_residual.result c.from_residual.ensures.1 in
     let told = first_told c.args.objectives c.args.rest.now c.from-length.result c.place-place.result c.split_at.result.0.now c.split_at.result.1.now (Err c.in_err-record.field-0.0) (search rules) c.from-length.ensures c.if-after-length.false c.place-place.ensures c.split_at.ensures.front c.split_at.ensures.back c.in_err-record.ensures in
     rw (p.1, p.2) (sym told)
 

@@ -1,4 +1,4 @@
-use Rattle.std.proofs.Common.{◌≡◌, ◌<◌, arith}
+use Rattle.std.proofs.Common.{◌<◌, arith}
 use Rattle.beside.specs.Pair.{fit}
 use Rattle.beside.specs.Recorded.{pair_read}
 use Rattle.beside.proofs.pair.Beside.read_both.Goals as goal
