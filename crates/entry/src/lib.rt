@@ -1,5 +1,7 @@
 // Reading trials from text, one from each line, `TAG DELAY LIFE`: three decimal numbers between spaces.
 // A line that says anything else is refused, with what is wrong about it.
+#![tactic(auto)]
+
 mod fields;
 mod numbers;
 mod outcome;

@@ -79,16 +79,20 @@ fn messages(rt: HostRuntime) -> Result<(), Fail> {
 
 #[test]
 fn ends_of_texts(rt: HostRuntime) -> Result<(), Fail> {
-    assert_eq!(rt; read_entries(rt.alloc(), b"")?.as_slice(), &[]);
+    let none: [Result<Entry, Malformed>; 0] = [];
+    assert_eq!(rt; read_entries(rt.alloc(), b"")?.as_slice(), none.as_slice());
     let entry = Ok(Entry {
         tag: 1,
         delay: 2,
         life: 3,
     });
-    assert_eq!(rt; read_entries(rt.alloc(), b"1 2 3")?.as_slice(), &[entry]);
+    assert_eq!(rt;
+        read_entries(rt.alloc(), b"1 2 3")?.as_slice(),
+        [entry].as_slice()
+    );
     assert_eq!(rt;
         read_entries(rt.alloc(), b"1 2 3\r\n")?.as_slice(),
-        &[entry]
+        [entry].as_slice()
     );
     Ok(())
 }
@@ -97,7 +101,7 @@ fn ends_of_texts(rt: HostRuntime) -> Result<(), Fail> {
 fn lines_of_a_text(rt: HostRuntime) -> Result<(), Fail> {
     assert_eq!(rt;
         read_entries(rt.alloc(), b"1 2 3\n\n1 x 3\n4 5 6")?.as_slice(),
-        &[
+        [
             Ok(Entry {
                 tag: 1,
                 delay: 2,
@@ -111,6 +115,7 @@ fn lines_of_a_text(rt: HostRuntime) -> Result<(), Fail> {
                 life: 6,
             }),
         ]
+        .as_slice()
     );
     Ok(())
 }

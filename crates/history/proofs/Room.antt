@@ -13,7 +13,6 @@ use Rattle.history.specs.declared.denials.Denial.{Denial}
 use Rattle.history.specs.declared.faults.FeedFault.{FeedFault}
 use Rattle.history.specs.declared.faults.FeedFault.TheVariants.{StrangeRows, Block, Record}
 use Rattle.history.specs.declared.faults.DeniedTrial.TheVariants.{OffGrid}
-use Rattle.history.specs.declared.answers.Fed.{Fed}
 use Rattle.history.specs.declared.answers.Answer.{Answer}
 use Rattle.history.specs.declared.answers.Answer.TheVariants as answer
 use Rattle.history.specs.Numbers.{denial_number}

@@ -1,6 +1,8 @@
 // What an archive was asked and what it answered, and all that must hold after it: one step of a trial against the members,
 // the five calls with their defined answers, the state that the arguments alone decide, the promises, and the theorems that
 // every space with the laws keeps them. The types of the answers live here; there is hardly any code.
+#![tactic(auto)]
+
 mod answers;
 mod denials;
 mod faults;

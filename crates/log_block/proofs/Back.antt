@@ -1,18 +1,17 @@
 -- What is written reads back, and what is read is what was written.
-use Rattle.std.proofs.Common.{◌≡◌, ℕ, zero, suc, ◌+◌, ◌-◌, ◌*◌, ◌<◌, ◌≤◌, List, [], ◌∷◌, ◌++◌, map, length, get_or, take, drop, replicate, Ok, Err, Result, sym, refl, ap, ◌∙◌, subst, arith}
-use Rattle.std.specs.List.{flat_map, AllByRecursion as All}
+use Rattle.std.proofs.Common.{◌≡◌, ℕ, ◌-◌, ◌<◌, ◌≤◌, List, ◌∷◌, ◌++◌, length, get_or, take, drop, replicate, Ok, Err, Result, sym, refl, ap, ◌∙◌, arith}
+use Rattle.std.specs.List.{flat_map}
 use Rattle.std.proofs.ByRecursion.{All-drop, All-get_or, All-take}
 use Rattle.std.proofs.lemmas.List.{drop_more, length-append, length-drop, length-map, length-replicate, length-take-le, take_at}
-use Rattle.word.specs.Word.{Bytes, four_bytes, number_at}
+use Rattle.word.specs.Word.{Bytes}
 use Rattle.word.proofs.Back.{four_again}
 use Rattle.log_block.specs.declared.faults.BlockFault.{BlockFault}
 use Rattle.log_block.specs.declared.faults.RecordFault.{RecordFault}
-use Rattle.log_block.specs.declared.faults.Fault.{Fault}
 use Rattle.log_block.specs.declared.faults.Fault.TheVariants.{Block, Record}
 use Rattle.log_block.specs.Items.{Item, ItemAt, item_bytes, place_of}
 use Rattle.log_block.specs.Sums.{check_bytes, with_sums}
-use Rattle.log_block.specs.Block.{block_number, block_of, checked, checked_block, checked_records, filled, front, header_check, records_check, records_in, records_of, room}
-use Rattle.log_block.specs.Theorems.{Holds, ReadsBack, SameBytes, WritesBack, placed_from}
+use Rattle.log_block.specs.Block.{block_number, block_of, checked_block, checked_records, filled, front, header_check, records_check, records_in, records_of, room}
+use Rattle.log_block.specs.Theorems.{ReadsBack, SameBytes, WritesBack, placed_from}
 use Rattle.log_block.proofs.Encoding.{check_again, in_again, zeros_sound}
 use Rattle.log_block.proofs.Decoding.{items_of, records_back}
 use Rattle.log_block.proofs.Filling.{filled_long}

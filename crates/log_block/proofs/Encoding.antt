@@ -1,11 +1,10 @@
 -- Records that were written are found again, each at its place.
-use Rattle.std.proofs.Common.{◌≡◌, ℕ, zero, suc, ◌+◌, ◌-◌, ◌*◌, ◌≤◌, eqb, ltb, List, [], ◌∷◌, ◌++◌, length, take, drop, replicate, Ok, Err, Result, sym, refl, ap, ◌∙◌, subst, arith}
+use Rattle.std.proofs.Common.{◌≡◌, ℕ, zero, suc, ◌+◌, ◌*◌, ◌≤◌, eqb, ltb, List, [], ◌∷◌, ◌++◌, length, take, drop, replicate, Ok, Err, refl, ap, ◌∙◌, arith}
 use Rattle.std.specs.List.{flat_map, AllByRecursion as All}
 use Rattle.std.proofs.lemmas.List.{append_assoc, drop_at, length-append, take_at}
 use Rattle.std.proofs.lemmas.Bool.{cond-false, cond-true, eq-eqb, le-ltb}
-use Rattle.word.specs.Word.{four_bytes, number_at}
+use Rattle.word.specs.Word.{number_at}
 use Rattle.word.proofs.Back.{four_back}
-use Rattle.log_block.specs.declared.faults.RecordFault.{RecordFault}
 use Rattle.log_block.specs.declared.faults.RecordFault.TheVariants.{OtherLength, Overlong}
 use Rattle.log_block.specs.Items.{Item, ItemAt, content_of, first_item, item_bytes, item_of, item_size, kind_of, note, place_of, trial, with_rest}
 use Rattle.log_block.specs.Block.{records_check, records_in, tail_check}

@@ -1,5 +1,5 @@
 -- A block is sound as a whole exactly where each of its five tests comes out.
-use Rattle.std.proofs.Common.{◌≡◌, ℕ, Bool, true, false, cond, not, eqb, List, length, get_or, Ok, Err, Result, sym, refl, ap, ◌∙◌}
+use Rattle.std.proofs.Common.{◌≡◌, ℕ, Bool, true, false, cond, not, eqb, List, length, get_or, Ok, Err, Result, refl, ap, ◌∙◌}
 use Rattle.std.proofs.lemmas.Bool.{eq-eqb, eqb-true}
 use Rattle.log_block.specs.declared.faults.BlockFault.{BlockFault}
 use Rattle.log_block.specs.declared.faults.BlockFault.TheVariants.{WrongLength, Torn, StrangeFirst, StrangeFourth, OtherGrid}

@@ -1,5 +1,5 @@
 -- The records of a block, one at a time.
-use Rattle.std.proofs.Common.{◌≡◌, ℕ, zero, suc, ◌-◌, ◌<◌, List, [], ◌∷◌, Ok, Err, sym, refl, ap, ◌∙◌, arith}
+use Rattle.std.proofs.Common.{◌≡◌, ℕ, zero, suc, ◌-◌, ◌<◌, List, [], ◌∷◌, Ok, Err, refl, arith}
 use Rattle.log_block.specs.declared.faults.RecordFault.{RecordFault}
 use Rattle.log_block.specs.Items.{Item, first_item, place_of}
 use Rattle.log_block.specs.Block.{records_check, records_in, tail_check}

@@ -1,5 +1,4 @@
 -- The faults of a block, each by its number, its layer and its place.
-use Rattle.std.specs.Prelude.{ℕ}
 use Rattle.log_block.specs.declared.faults.BlockFault.{BlockFault}
 use Rattle.log_block.specs.declared.faults.BlockFault.TheVariants.{WrongLength, Torn, StrangeFirst, StrangeFourth, OtherGrid}
 use Rattle.log_block.specs.declared.faults.RecordFault.{RecordFault}

@@ -1,5 +1,5 @@
 -- A record: a kind, a length, and as many bytes. It is a trial or a note.
-use Rattle.std.specs.Prelude.{ℕ, ◌+◌, ◌-◌, ◌*◌, Bool, cond, List, [], ◌∷◌, ◌++◌, length, take, drop, Ok, Err, Result, ◌==◌, nat_lt}
+use Rattle.std.specs.Prelude.{ℕ, ◌+◌, ◌-◌, ◌*◌, cond, List, [], ◌∷◌, ◌++◌, length, take, drop, Ok, Err, Result, ◌==◌, nat_lt}
 use Rattle.word.specs.Word.{four_bytes, number_at}
 use Rattle.log_block.specs.declared.faults.RecordFault.{RecordFault}
 use Rattle.log_block.specs.declared.faults.RecordFault.TheVariants.{Overlong, OtherKind, OtherLength}

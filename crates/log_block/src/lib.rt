@@ -1,5 +1,7 @@
 // One block of a log: 512 bytes that carry trials and notes. It is checked byte by byte, its records are handed out as parts
 // of it, and blocks of trials are written. Of spaces it knows only how many objectives there are, and of archives nothing.
+#![tactic(auto)]
+
 mod checking;
 mod faults;
 mod parts;

@@ -39,7 +39,7 @@ fn fault(number: u8, layer: u8, place: usize) -> Option<Report> {
 #[test]
 fn blocks_as_a_whole(rt: HostRuntime) {
     let empty = block(0, &[]);
-    assert!(rt; &empty[508..512] == &[0, 3, 5, 240]);
+    assert!(rt; empty[508..512] == [0, 3, 5, 240]);
     assert_eq!(rt; told(&empty), None);
     assert_eq!(rt; told(&empty[0..511]), fault(9, 1, 0));
     assert_eq!(rt; told(&[0; 513]), fault(9, 1, 0));
@@ -151,7 +151,7 @@ fn records_as_parts(rt: HostRuntime) -> Result<(), Fail> {
         return Ok(());
     };
     assert_eq!(rt; tag, 16777225);
-    assert!(rt; point == &[0, 0, 0, 7, 0, 0, 0, 0]);
+    assert!(rt; point == [0, 0, 0, 7, 0, 0, 0, 0].as_slice());
     let Some(third) = records.next() else {
         assert!(rt; false);
         return Ok(());
@@ -161,7 +161,7 @@ fn records_as_parts(rt: HostRuntime) -> Result<(), Fail> {
         assert!(rt; false);
         return Ok(());
     };
-    assert!(rt; text == &[0, 0, 5]);
+    assert!(rt; text == [0, 0, 5].as_slice());
     match records.next() {
         Some(_) => {
             assert!(rt; false);

@@ -1,5 +1,7 @@
 // The ratio space: each objective is divided into boxes that grow by a per cent, up to a ceiling.
 // A greater figure is better, and one figure covers another that is greater by no more than the per cent.
+#![tactic(auto)]
+
 mod axes;
 mod edges;
 mod rule;

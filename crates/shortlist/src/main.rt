@@ -1,6 +1,8 @@
 // Reads the trials of one logger from standard input, a line each, and prints which of them stand: the boxes that no
 // other trial's box dominates and the trials that no other dominates, by definition alone and with no archive.
 // It is the plain yardstick for what an archive may hold.
+#![tactic(auto)]
+
 mod account;
 mod scales;
 

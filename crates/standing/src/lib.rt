@@ -1,5 +1,7 @@
 // Which trials of a list stand, and which boxes: by definition alone, pair by pair, with no archive.
 // It is slow and plain on purpose, the yardstick for what an archive may hold.
+#![tactic(auto)]
+
 mod above;
 mod among;
 mod compare;

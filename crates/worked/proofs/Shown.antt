@@ -1,6 +1,5 @@
 -- Each figure computes.
 use Rattle.std.proofs.Common.{refl}
-use Rattle.grid.specs.Space.{all_below}
 use Rattle.ratio.specs.Edges.{edge, climb}
 use Rattle.worked.specs.Spaces.{StepFigures, RatioFigures, Figures}
 

@@ -1,5 +1,5 @@
 -- The worked figures of the spaces, as statements about the definitions.
-use Rattle.std.specs.Prelude.{◌≡◌, ℕ, Bool, true, false, List, [], ◌∷◌, map, ℤ, pos, negsuc, Some, None}
+use Rattle.std.specs.Prelude.{◌≡◌, ℕ, true, false, List, [], ◌∷◌, map, ℤ, pos, negsuc, Some, None}
 use Rattle.std.specs.List.{range_with_len}
 use Rattle.space.specs.declared.refusal.BadGrid.TheVariants.{Objective}
 use Rattle.grid.specs.Making.{grid_fault}

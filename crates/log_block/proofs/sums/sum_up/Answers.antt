@@ -1,4 +1,4 @@
-use Rattle.std.proofs.Common.{length, sym, ap, ◌∙◌, arith}
+use Rattle.std.proofs.Common.{sym, ap, ◌∙◌, arith}
 use Rattle.std.proofs.lemmas.List.{take_all}
 use Rattle.log_block.specs.Sums.{high_sum, low_sum}
 use Rattle.log_block.proofs.Adding.{high_more, high_none, low_more, low_none}

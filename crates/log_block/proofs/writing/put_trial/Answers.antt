@@ -1,6 +1,5 @@
-use Rattle.std.proofs.Common.{◌≡◌, ◌+◌, ◌*◌, take, ap, ◌∙◌}
-use Rattle.log_block.specs.Items.{item_bytes}
-use Rattle.log_block.specs.Writing.{put_at, trial_item}
+use Rattle.std.proofs.Common.{◌+◌, ◌*◌, take, ap, ◌∙◌}
+use Rattle.log_block.specs.Writing.{put_at}
 use Rattle.log_block.proofs.Growing.{record_front}
 use Rattle.log_block.proofs.writing.put_trial.Goals as goal
 

@@ -1,4 +1,4 @@
-use Rattle.std.proofs.Common.{◌*◌, arith, rules}
+use Rattle.std.proofs.Common.{◌*◌, rules}
 use Rattle.std.proofs.lemmas.List.{length-take-le}
 use Rattle.log_block.proofs.writing.record_bytes.Goals as goal
 

@@ -1,4 +1,4 @@
-use Rattle.std.proofs.Common.{◌≡◌, ◌≤◌, map, length, ap, ◌∙◌, arith}
+use Rattle.std.proofs.Common.{◌≤◌, map, length, ap, ◌∙◌, arith}
 use Rattle.log_block.specs.Block.{checked, front}
 use Rattle.log_block.specs.Writing.{trial_item}
 use Rattle.log_block.proofs.Back.{reads_back}

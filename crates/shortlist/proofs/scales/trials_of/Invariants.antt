@@ -1,4 +1,4 @@
-use Rattle.std.proofs.Common.{◌≡◌, ◌≤◌, ◌++◌, length, drop, vec_items}
+use Rattle.std.proofs.Common.{◌≡◌, ◌++◌, drop, vec_items}
 use Rattle.shortlist.specs.Logger.{trials_of}
 use Rattle.shortlist.proofs.scales.trials_of.Given as goal
 
