@@ -1,6 +1,6 @@
 -- What a space rests on that holds its rules and asks the first n: it keeps the laws, and its admitted points are writable.
 use Rattle.std.proofs.Common.{◌≡◌, ℕ, ◌+◌, ◌*◌, ◌/◌, ◌<◌, ◌≤◌, true, ◌&&◌, ◌||◌, eqb, ltb, List, [], ◌∷◌, map, length, get_or, take, replicate, refl, ap, ◌∙◌, subst, ⊎_elim, arith, rules}
-use Rattle.std.specs.List.{AllByRecursion as All}
+use Rattle.std.specs.List.{AllByRecursion}
 use Rattle.std.proofs.ByRecursion.{All-map}
 use Rattle.std.proofs.lemmas.List.{get_or_past, get_or-replicate, length-map, length-replicate, length-take-le}
 use Rattle.std.proofs.lemmas.Bool.{and_from, cases_lt, eq-eqb, lt-ltb, or_left, or_right}
@@ -27,7 +27,7 @@ pub unsigned_zero_held : unsigned_bits.holds unsigned_bits.zero ≡ true
 unsigned_zero_held = refl
 
 -- what holds of everything holds of each in a list
-all_always : {X : Type 0} (P : X → Type 0) → ((x : X) → P x) → (xs : List X) → All P xs
+all_always : {X : Type 0} (P : X → Type 0) → ((x : X) → P x) → (xs : List X) → AllByRecursion P xs
 all_always P h [] = tt
 all_always P h (x ∷ xs) = (h x, all_always P h xs)
 

@@ -2,7 +2,7 @@
 use Rattle.std.proofs.Common.{◌≡◌, ℕ, ◌<◌, ◌≤◌, true, List, length, sym, refl, ap, subst, ⊎_elim, arith}
 use Rattle.std.proofs.lemmas.List.{get_or_past}
 use Rattle.std.proofs.lemmas.Bool.{cond-true, cond-false, cond_both, cases_lt}
-use Rattle.std.specs.List.{AllByRecursion as All}
+use Rattle.std.specs.List.{AllByRecursion}
 use Rattle.std.proofs.ByRecursion.{All-get_or}
 use Rattle.space.specs.Meaning.{Lawful}
 use Rattle.grid.specs.Bits.{Bits}
@@ -25,7 +25,7 @@ unused_lawful B = record {
 pub past_the_last : {F : Type 0} (B : Bits F) (lines : List (Line F)) (i : ℕ) → length lines ≤ i → line_at B lines i ≡ unused B
 past_the_last B lines i l = get_or_past lines i (unused B) l
 
-module _ {F : Type 0} (B : Bits F) (lines : List (Line F)) (each : All LineLawful lines) where
+module _ {F : Type 0} (B : Bits F) (lines : List (Line F)) (each : AllByRecursion LineLawful lines) where
   -- each line of six keeps the laws
   line_lawful : (i : ℕ) → LineLawful (line_at B lines i)
   line_lawful i = ⊎_elim (λ l. All-get_or LineLawful lines i (unused B) l each) (λ l. subst LineLawful (sym (past_the_last B lines i l)) (unused_lawful B)) (cases_lt i (length lines))

@@ -1,7 +1,7 @@
 -- Trials that are apart from the members and from each other all enter, if there are rows enough.
 use Rattle.std.proofs.Common.{◌≡◌, ℕ, ◌+◌, ◌<◌, ◌≤◌, true, List, [], ◌∷◌, ◌++◌, map, length, filter, sym, refl, ap, ◌∙◌, subst, ⊎_elim, append_assoc, append-nil, one-add, arith}
 use mathlib.Core.List.Memᴰ
-use Rattle.std.specs.List.{AllByRecursion as All}
+use Rattle.std.specs.List.{AllByRecursion}
 use Rattle.std.proofs.lemmas.List.{length_push}
 use Rattle.std.proofs.lemmas.Bool.{cond-true}
 use Rattle.space.specs.Meaning.{Meaning, Lawful}
@@ -39,7 +39,7 @@ module _ {P : Type 0} (M : Meaning P) (L : Lawful M) (rows : ℕ) where
       (λ F k. absurd (omega arith))
 
   -- the tally, and the members after
-  pub all_enter : (ms : List (Trial P)) (xs : List (TrialAt P)) → Pairwise (Apart M) (ms ++ map (λ x. x.read) xs) → All (λ t. on_grid M t ≡ true) (map (λ x. x.read) xs) → length ms + length xs ≤ rows
+  pub all_enter : (ms : List (Trial P)) (xs : List (TrialAt P)) → Pairwise (Apart M) (ms ++ map (λ x. x.read) xs) → AllByRecursion (λ t. on_grid M t ≡ true) (map (λ x. x.read) xs) → length ms + length xs ≤ rows
       → (tally M rows ms xs ≡ all_entered (length xs)) × (members_after M rows ms (filter (on_grid M) (map (λ x. x.read) xs)) ≡ ms ++ map (λ x. x.read) xs)
   unfolding tally members_after
   all_enter ms [] apart good fits = (refl, sym (append-nil ms))

@@ -1,7 +1,7 @@
 -- Feeding all saved blocks, one after the other.
 use Rattle.std.proofs.Common.{◌≡◌, ℕ, zero, suc, ◌+◌, ◌*◌, ◌≤◌, min, true, List, [], ◌∷◌, ◌++◌, map, reverse, length, take, drop, filter, sym, refl, ap, ◌∙◌, subst, suc-mul, zero-mul, add-one, arith, length-append, length-drop, length-take, take-add}
 use mathlib.Core.List.{map-map, reverse-append, reverse-reverse}
-use Rattle.std.specs.List.{range_with_len, AllByRecursion as All}
+use Rattle.std.specs.List.{range_with_len, AllByRecursion}
 use Rattle.std.specs.Result.{result_map_both, result_unwrap_or}
 use Rattle.std.proofs.lemmas.List.FromFn.{map-range_with_len_more}
 use Rattle.std.proofs.ByRecursion.{All-weaker}
@@ -36,7 +36,7 @@ newest f j =
     ∙ reverse-append (map f (range_with_len 0 j)) (f j ∷ [])
 
 module _ {P : Type 0} (M : Meaning P) (R : Recording P) (laws : RecordedLaws M R) (rows : ℕ) (ms : List (Trial P))
-    (savable : All (Savable M) ms) (apart : Pairwise (Apart M) ms) (fits : length ms ≤ rows) where
+    (savable : AllByRecursion (Savable M) ms) (apart : Pairwise (Apart M) ms) (fits : length ms ≤ rows) where
   -- the members before block k
   abbrev front : ℕ → List (Trial P)
   front k = take (k * per_block M) ms
@@ -56,7 +56,7 @@ module _ {P : Type 0} (M : Meaning P) (R : Recording P) (laws : RecordedLaws M R
       let are = found_are M R laws ms savable k in
       let passes = found_passes M R laws ms savable k rows in
       let joins : front k ++ map (λ x. x.read) xs ≡ front (suc k) = ap (λ l. front k ++ l) are ∙ sym (take-add (k * q) q ms) ∙ ap (λ n. take n ms) (sym (suc-mul k q)) in
-      let good : All (λ t. on_grid M t ≡ true) (map (λ x. x.read) xs) = subst (All (λ t. on_grid M t ≡ true)) (sym are) (All-weaker (Savable M) (λ t. on_grid M t ≡ true) (λ t s. s.0) (part q ms k) (part_savable M R laws ms savable k)) in
+      let good : AllByRecursion (λ t. on_grid M t ≡ true) (map (λ x. x.read) xs) = subst (AllByRecursion (λ t. on_grid M t ≡ true)) (sym are) (All-weaker (Savable M) (λ t. on_grid M t ≡ true) (λ t s. s.0) (part q ms k) (part_savable M R laws ms savable k)) in
       let long : length xs ≡ in_block q (length ms) k = sym (length-map xs (λ x. x.read)) ∙ ap length are ∙ length-take q (drop (k * q) ms) ∙ ap (min q) (length-drop (k * q) ms) in
       let room : length (front k) + length xs ≤ rows = omega (arith, length-append (front k) (map (λ x. x.read) xs), length-map xs (λ x. x.read), ap length joins, length-take (suc k * q) ms) in
       let all = all_enter M laws.lawful rows (front k) xs (subst (Pairwise (Apart M)) (sym joins) (pairwise_take (Apart M) (suc k * q) ms apart)) good room in (
@@ -98,7 +98,7 @@ pub round_trip : {P : Type 0} → RoundTrip P
 round_trip M R laws reads h tags k back =
     let ms = (state M reads h).members in
     let S = (holds M laws.lawful h.rows reads h.events).sound in
-    let savable : All (Savable M) ms = each_all (Savable M) ms (λ r m. (S.admitted r (S.own r m), tags r m)) in
+    let savable : AllByRecursion (Savable M) ms = each_all (Savable M) ms (λ r m. (S.admitted r (S.own r m), tags r m)) in
     let n = block_count (per_block M) (length ms) in
     let fed : ℕ → Call _ = λ i. feed k.rows (saved_block M R ms i) in
     let calls : map (λ e. e.call) k.events ≡ reverse (map fed (range_with_len 0 n)) = sym (reverse-reverse (map (λ e. e.call) k.events)) ∙ ap reverse (back.feeds ∙ map-map (feed k.rows) (saved_block M R ms) (range_with_len 0 n)) in

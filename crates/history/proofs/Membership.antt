@@ -1,7 +1,7 @@
 -- What stands in a list, and in the lists that the step makes of it.
 use Rattle.std.proofs.Common.{◌≡◌, ℕ, suc, ◌+◌, ◌≤◌, Bool, true, false, cond, ◌⊎◌, ◌↔◌, List, [], ◌∷◌, ◌++◌, length, take, drop, Decides, filter, sym, refl, ap, ◌∙◌, subst, inl, inr, ⊎_elim, arith}
 use mathlib.Core.List.Memᴰ
-use Rattle.std.specs.List.{AllByRecursion as All}
+use Rattle.std.specs.List.{AllByRecursion}
 use Rattle.std.proofs.lemmas.List.{take-append-drop}
 use Rattle.std.proofs.lemmas.Bool.{cond_both, or_cases, or_left, or_right, both_ways, false≢true}
 use Rattle.history.specs.Lists.{◌∈◌, SomeIn, NoneIn, EachIn, any, first_of, without_first}
@@ -28,7 +28,7 @@ module _ {A : Type 0} where
   pub each_push : (Q : A → Type 0) {t : A} (xs : List A) → EachIn xs Q → Q t → EachIn (xs ++ (t ∷ [])) Q
   each_push Q xs h k a m = ⊎_elim (h a) (λ e. subst Q (sym e) k) ((in_push xs).0 m)
 
-  pub each_all : (Q : A → Type 0) (xs : List A) → EachIn xs Q → All Q xs
+  pub each_all : (Q : A → Type 0) (xs : List A) → EachIn xs Q → AllByRecursion Q xs
   each_all Q [] h = tt
   each_all Q (x ∷ xs) h = (h x in_head, each_all Q xs (λ a m. h a (Memᴰ.tail m)))
 

@@ -1,7 +1,7 @@
 -- A saved block is fed: its trials are the members that it was made of.
 use Rattle.std.proofs.Common.{◌≡◌, ℕ, ◌+◌, ◌-◌, ◌*◌, ◌/◌, ◌^◌, ◌<◌, ◌≤◌, true, eqb, List, [], ◌∷◌, map, length, drop, Ok, Err, refl, ap, ◌∙◌, mod-lt, mul-le-mul_left, div-add-mod', le-div_iff_mul-le, mul-suc, arith, length-append, length-take}
 use native.Mathlib.Nat.{mul-div-le}
-use Rattle.std.specs.List.{flat_map, AllByRecursion as All}
+use Rattle.std.specs.List.{flat_map, AllByRecursion}
 use Rattle.std.specs.Result.{result_map_both}
 use Rattle.std.proofs.ByRecursion.{All-drop, All-map, All-take, All-weaker}
 use Rattle.std.proofs.lemmas.Bool.{cond_both, cond-true, eq-eqb, eqb-true}
@@ -46,14 +46,14 @@ module _ {P : Type 0} (M : Meaning P) (R : Recording P) (laws : RecordedLaws M R
       ∙ laws.faithful.reads_back p (laws.writable p a)
 
   -- the records of members read as these members
-  items_read : (at : ℕ) (rs : List (Trial P)) → All (Savable M) rs → map (λ x. x.read) (trials_of (read_point R) (placed_from at (map (item_for R) rs))) ≡ rs
+  items_read : (at : ℕ) (rs : List (Trial P)) → AllByRecursion (Savable M) rs → map (λ x. x.read) (trials_of (read_point R) (placed_from at (map (item_for R) rs))) ≡ rs
   items_read at [] s = refl
   items_read at (r ∷ rs) s =
       let items = placed_from (at + item_size (item_for R r)) (map (item_for R) rs) in
       ap (λ p. record { point = p; tag = r.tag } ∷ map (λ x. x.read) (trials_of (read_point R) items)) (read_back r.point s.0.0)
       ∙ ap (λ l. r ∷ l) (items_read (at + item_size (item_for R r)) rs s.1)
 
-  items_held : (rs : List (Trial P)) → All (Savable M) rs → All (Holds M.objectives) (map (item_for R) rs)
+  items_held : (rs : List (Trial P)) → AllByRecursion (Savable M) rs → AllByRecursion (Holds M.objectives) (map (item_for R) rs)
   items_held rs s =
       All-map (Holds M.objectives) (item_for R) rs
       (All-weaker (Savable M) (λ r. Holds M.objectives (item_for R r)) (λ r h. (h.1, laws.faithful.long r.point ∙ laws.four_each)) rs s)
@@ -69,8 +69,8 @@ module _ {P : Type 0} (M : Meaning P) (R : Recording P) (laws : RecordedLaws M R
       let size = 6 + 4 * M.objectives in
       omega (arith, items_long rs, mul-le-mul_left size l, mul-div-le 500 size)
 
-  module _ (ms : List (Trial P)) (savable : All (Savable M) ms) (k : ℕ) where
-    pub part_savable : All (Savable M) (part (per_block M) ms k)
+  module _ (ms : List (Trial P)) (savable : AllByRecursion (Savable M) ms) (k : ℕ) where
+    pub part_savable : AllByRecursion (Savable M) (part (per_block M) ms k)
     part_savable =
         All-take (Savable M) (per_block M) (drop (k * per_block M) ms) (All-drop (Savable M) (k * per_block M) ms savable)
 

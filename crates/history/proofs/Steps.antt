@@ -1,7 +1,7 @@
 -- What holds of the reference state after every call.
 use Rattle.std.proofs.Common.{◌≡◌, ℕ, ◌+◌, ◌<◌, ◌≤◌, true, not, eqb, ltb, List, [], ◌∷◌, ◌++◌, map, length, Ok, Err, filter, Result, refl, arith}
 use Rattle.std.specs.Result.{result_unwrap_or}
-use Rattle.std.specs.List.{AllByRecursion as All}
+use Rattle.std.specs.List.{AllByRecursion}
 use Rattle.std.proofs.lemmas.List.{length_push}
 use Rattle.std.proofs.ByRecursion.{kept_by_passes}
 use Rattle.std.proofs.lemmas.List.Filters.{length-filter_both}
@@ -95,7 +95,7 @@ module _ {P : Type 0} (M : Meaning P) (L : Lawful M) (rows : ℕ) where
     has_verdict enough =
         judge_by M L s.members t rows Given (λ e. tt) (λ n e. tt) (λ n b g. tt) (λ F l. tt) (λ F l. omega (arith, spare F))
 
-  steps : (s : State P) (ts : List (Trial P)) → All (λ t. on_grid M t ≡ true) ts → Holds M rows s → Holds M rows (after_all M rows s ts)
+  steps : (s : State P) (ts : List (Trial P)) → AllByRecursion (λ t. on_grid M t ≡ true) ts → Holds M rows s → Holds M rows (after_all M rows s ts)
   steps s [] a H = H
   steps s (t ∷ ts) a H = steps (after s t (judge M rows s.members t)) ts a.1 (step s t a.0 H)
 
@@ -108,11 +108,11 @@ module _ {P : Type 0} (M : Meaning P) (L : Lawful M) (rows : ℕ) where
       (λ f. cond_both (not (on_grid M t)) _ _ (Passed M) (λ g. tt) (λ g. not-false (on_grid M t) g)))
       (λ e. tt)
 
-  good_offer : (c : Result (Trial P) Denial) → Passed M c → All (λ t. on_grid M t ≡ true) (elim c [ Ok r ↦ r ∷ [] | Err d ↦ [] ])
+  good_offer : (c : Result (Trial P) Denial) → Passed M c → AllByRecursion (λ t. on_grid M t ≡ true) (elim c [ Ok r ↦ r ∷ [] | Err d ↦ [] ])
   good_offer (Ok r) g = (g, tt)
   good_offer (Err d) g = tt
 
-  good_brought : (reads : List ℕ → P) (c : Call P) → All (λ t. on_grid M t ≡ true) (brought M reads rows c)
+  good_brought : (reads : List ℕ → P) (c : Call P) → AllByRecursion (λ t. on_grid M t ≡ true) (brought M reads rows c)
   good_brought reads (offer lent room t) = good_offer (offer_check M rows lent room t) (offer_passed lent room t)
   good_brought reads (feed lent block) = kept_by_passes (on_grid M) (map (λ x. x.read) (result_unwrap_or (feed_check M reads rows lent block) []))
   good_brought reads (audit lent) = tt

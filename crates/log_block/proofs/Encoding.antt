@@ -1,6 +1,6 @@
 -- Records that were written are found again, each at its place.
 use Rattle.std.proofs.Common.{◌≡◌, ℕ, zero, suc, ◌+◌, ◌*◌, ◌≤◌, eqb, ltb, List, [], ◌∷◌, ◌++◌, length, take, drop, replicate, Ok, Err, refl, ap, ◌∙◌, arith}
-use Rattle.std.specs.List.{flat_map, AllByRecursion as All}
+use Rattle.std.specs.List.{flat_map, AllByRecursion}
 use Rattle.std.proofs.lemmas.List.{append_assoc, drop_at, length-append, take_at}
 use Rattle.std.proofs.lemmas.Bool.{cond-false, cond-true, eq-eqb, le-ltb}
 use Rattle.word.specs.Word.{number_at}
@@ -41,7 +41,7 @@ first_of : (m : ℕ) (x : Item) (xs : List Item) (tail : List ℕ) → Holds m x
 first_of m x xs tail h = ap (first_item m) (append_assoc (item_bytes x) (flat_map item_bytes xs) tail) ∙ first_again m x (flat_map item_bytes xs ++ tail) h
 
 -- written records are sound
-pub check_again : (m : ℕ) (items : List Item) (tail : List ℕ) → All (Holds m) items → tail_check tail ≡ Ok tt → records_check m (length items) (flat_map item_bytes items ++ tail) ≡ Ok tt
+pub check_again : (m : ℕ) (items : List Item) (tail : List ℕ) → AllByRecursion (Holds m) items → tail_check tail ≡ Ok tt → records_check m (length items) (flat_map item_bytes items ++ tail) ≡ Ok tt
 check_again m [] tail h z = check_none m 0 tail refl ∙ z
 check_again m (x ∷ xs) tail h z = check_suc m (length xs) (flat_map item_bytes (x ∷ xs) ++ tail) x (flat_map item_bytes xs ++ tail) (first_of m x xs tail h.0) ∙ check_again m xs tail h.1 z
 
@@ -53,7 +53,7 @@ place_after x xs tail l =
     omega (arith, whole)
 
 -- and are found, each after the one before
-pub in_again : (m : ℕ) (items : List Item) (tail : List ℕ) → All (Holds m) items → length (flat_map item_bytes items ++ tail) ≤ 508 → records_in m (length items) (flat_map item_bytes items ++ tail) ≡ placed_from (place_of (flat_map item_bytes items ++ tail)) items
+pub in_again : (m : ℕ) (items : List Item) (tail : List ℕ) → AllByRecursion (Holds m) items → length (flat_map item_bytes items ++ tail) ≤ 508 → records_in m (length items) (flat_map item_bytes items ++ tail) ≡ placed_from (place_of (flat_map item_bytes items ++ tail)) items
 in_again m [] tail h l = in_none m 0 tail refl
 in_again m (x ∷ xs) tail h l =
     let all = flat_map item_bytes (x ∷ xs) ++ tail in

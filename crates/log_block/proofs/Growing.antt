@@ -1,6 +1,6 @@
 -- A block that is being written, one trial after the other.
 use Rattle.std.proofs.Common.{◌≡◌, ℕ, suc, ◌+◌, ◌*◌, ◌<◌, ◌≤◌, eqb, List, [], ◌∷◌, ◌++◌, map, length, get_or, take, replicate, sym, refl, ap, ◌∙◌, add-mul, arith}
-use Rattle.std.specs.List.{flat_map, AllByRecursion as All}
+use Rattle.std.specs.List.{flat_map, AllByRecursion}
 use Rattle.std.proofs.lemmas.Bool.{cond-true, eq-eqb}
 use Rattle.std.proofs.lemmas.List.{flat_map_more, length-append, map_more}
 use Rattle.word.specs.Word.{four_bytes}
@@ -52,7 +52,7 @@ unfolding so_far
 front_all m number items count e = ap (λ n. 1 ∷ (n ∷ (m ∷ (0 ∷ (four_bytes number ++ flat_map item_bytes items))))) e
 
 -- how many bytes the records of trials take
-pub trials_long : (m : ℕ) (ts : List TrialBytes) → All (Holds m) (map (trial_item m) ts) → length (flat_map item_bytes (map (trial_item m) ts)) ≡ length ts * (6 + 4 * m)
+pub trials_long : (m : ℕ) (ts : List TrialBytes) → AllByRecursion (Holds m) (map (trial_item m) ts) → length (flat_map item_bytes (map (trial_item m) ts)) ≡ length ts * (6 + 4 * m)
 trials_long m [] h = omega arith
 trials_long m (t ∷ ts) h =
     let x = trial_item m t in

@@ -1,6 +1,6 @@
 -- The theorems of blocks: what is written reads back, and what is read is what was written.
 use Rattle.std.specs.Prelude.{◌≡◌, ℕ, ◌+◌, ◌*◌, ◌^◌, ◌<◌, ◌≤◌, List, [], ◌∷◌, map, length, Ok}
-use Rattle.std.specs.List.{AllByRecursion as All}
+use Rattle.std.specs.List.{AllByRecursion}
 use Rattle.word.specs.Word.{Bytes}
 use Rattle.log_block.specs.Items.{Item, ItemAt, trial, note, item_size}
 use Rattle.log_block.specs.Block.{block_number, block_of, checked, front}
@@ -17,7 +17,7 @@ placed_from at (x ∷ xs) = record { place = at; item = x } ∷ placed_from (at 
 
 -- what is written is accepted, and reads back record by record, each at its place
 abbrev pub ReadsBack : Type 0
-ReadsBack = (m number : ℕ) (items : List Item) → All (Holds m) items → length (front m number items) ≤ 508 → checked m (block_of m number items) ≡ Ok (placed_from 8 items)
+ReadsBack = (m number : ℕ) (items : List Item) → AllByRecursion (Holds m) items → length (front m number items) ≤ 508 → checked m (block_of m number items) ≡ Ok (placed_from 8 items)
 
 -- an accepted block is the block of its records and its number
 abbrev pub WritesBack : Type 0

@@ -1,6 +1,6 @@
 // Writing a block of trials.
 ghost use Rattle.std.specs.Prelude.{◌≡◌, ◌+◌, ◌*◌, ◌≤◌, [], ◌∷◌, ◌++◌, map, length, take, Ok, OnOk};
-ghost use Rattle.std.specs.List.{AllByRecursion as All};
+ghost use Rattle.std.specs.List.{AllByRecursion};
 ghost use Rattle.word.specs.Word.{four_bytes};
 ghost use Rattle.log_block.specs.Block.{block_of, checked, filled, front};
 ghost use Rattle.log_block.specs.Items.{item_bytes, trial as trial_of};
@@ -74,7 +74,7 @@ fn write_header(block: &mut [u8], objectives: u8, number: u32, count: u8)
 // Writes the header, the trials' records, and zeros after them.
 fn write_records(block: &mut [u8], objectives: u8, number: u32, trials: &[TrialBytes])
     requires { (length block.old ≡ 512) × (length trials.now ≤ capacity objectives) }
-    ensures holds { All (Holds objectives) (map (trial_item objectives) trials.now) }
+    ensures holds { AllByRecursion (Holds objectives) (map (trial_item objectives) trials.now) }
     ensures after { block.new ≡ filled 512 (front objectives number (map (trial_item objectives) trials.now)) }
 {
     write_header(block, objectives, number, trials.len() as u8);

@@ -1,5 +1,5 @@
 use Rattle.std.proofs.Common.{◌≡◌, ◌+◌, ◌*◌, [], map, length, get_or, take, sym, refl, ap, ◌∙◌, subst, add-mul, arith}
-use Rattle.std.specs.List.{AllByRecursion as All}
+use Rattle.std.specs.List.{AllByRecursion}
 use Rattle.std.proofs.lemmas.List.{length-map, map_more, take_all}
 use Rattle.std.proofs.ByRecursion.{All-push}
 use Rattle.log_block.specs.declared.writing.TrialBytes.{TrialBytes}
@@ -38,7 +38,7 @@ loop-trial-preserved c =
       omega (arith, c.loop-trial.invariant.0, c.from.ensures, add-mul i 1 (6 + 4 * m)),
       omega (arith, c.loop-trial.invariant.1, c.from.ensures, long, size),
       c.put_trial.ensures.after ∙ trial_put m c.args.number count trials i d c.loop-trial.block c.loop-trial.place c.loop-trial-test.true c.loop-trial.invariant.2 c.loop-trial.invariant.1,
-      subst (All (Holds m)) (sym more) (All-push (Holds m) (map (trial_item m) (take i trials)) x c.loop-trial.invariant.3 held),
+      subst (AllByRecursion (Holds m)) (sym more) (All-push (Holds m) (map (trial_item m) (take i trials)) x c.loop-trial.invariant.3 held),
     )
 
 pub returns : goal.returns
@@ -47,6 +47,6 @@ returns c =
     let trials = c.args.trials.now in
     let all : take c.loop-trial.trial-index trials ≡ trials = take_all c.loop-trial.trial-index trials (omega arith) in
     record {
-      holds = subst (λ ts. All (Holds m) (map (trial_item m) ts)) all c.loop-trial.invariant.3;
+      holds = subst (λ ts. AllByRecursion (Holds m) (map (trial_item m) ts)) all c.loop-trial.invariant.3;
       after = c.loop-trial.invariant.2 ∙ (ap (λ ts. filled 512 (so_far m c.args.number (length trials) (map (trial_item m) ts))) all ∙ ap (filled 512) (front_all m c.args.number (map (trial_item m) trials) (length trials) (sym (length-map trials (trial_item m)))));
     }

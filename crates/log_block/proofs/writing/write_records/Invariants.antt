@@ -1,5 +1,5 @@
 use Rattle.std.proofs.Common.{◌≡◌, ◌+◌, ◌*◌, map, length, take}
-use Rattle.std.specs.List.{AllByRecursion as All}
+use Rattle.std.specs.List.{AllByRecursion}
 use Rattle.log_block.specs.Block.{filled}
 use Rattle.log_block.specs.Theorems.{Holds}
 use Rattle.log_block.specs.Writing.{so_far, trial_item}
@@ -11,4 +11,4 @@ invariant-loop-trial l =
     (l.place ≡ 8 + l.trial-index * (6 + 4 * l.objectives))
     × (l.place ≡ length (so_far l.objectives l.number (length l.trials) items))
     × (l.block ≡ filled 512 (so_far l.objectives l.number (length l.trials) items))
-    × All (Holds l.objectives) items
+    × AllByRecursion (Holds l.objectives) items

@@ -17,7 +17,7 @@ returns g c =
     let made = c.in-Ok-new.ensures.value in
     let calls = map (call_of (length c.args.own.now) (length c.args.strange.now) (length c.args.list.now)) c.args.asks.now in
     let answers = c.run_all.new.answers in
-    let long : length answers ≡ c.in-Ok.answers.len = c.run_all.auto.answers ∙ c.deref-mut.ensures.len in
+    let long : length answers ≡ c.in-Ok.answers.len = c.run_all.auto.answers ∙ c.deref_mut.ensures.len in
     let whole = take_at answers (drop (length answers) c.in-Ok.answers.items) c.in-Ok.answers.len long in
     let b = lending c.run_all.new.archive c.run_all.new.own c.run_all.new.list in
     record {

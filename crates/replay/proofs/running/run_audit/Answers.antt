@@ -15,5 +15,5 @@ pub returns-else-lent-own : goal.returns-else-lent-own
 returns-else-lent-own g c list =
     let M = g.S.Space.meaning c.args.archive.now.space in
     let rows = c.split_at.result.0.now in
-    let size : length rows ≡ c.lent-lent.result = c.split_at.ensures.front-len in
+    let size : length rows ≡ c.lent-lent.result = c.split_at.ensures.front_len in
     as_asked _ _ _ _ _ _ _ (ap audit (size ∙ c.lent-lent.ensures)) c.audited-else-lent-own.ensures (ran_audit_strange M (lending c.args.archive.now rows []) c.args.own.now list (λ e. c.if-lent-own.false (sym size ∙ (e ∙ sym c.requires))) _ c.audit-else-lent-own.ensures)
