@@ -10,7 +10,10 @@ pub run_all-requires : goal.run_all-requires
 run_all-requires g c =
     let made = c.in-Ok-new.ensures.value in
     let begins = c.in-Ok-new.ensures.begins in
-    ((sym made.2, search rules), subst (λ s. Begins (g.S.Space.meaning s) c.in-Ok-new.archive.rows c.in-Ok-new.archive.count c.args.own.now) (sym made.1) begins)
+    record {
+      own_len = (sym made.2, search rules);
+      begins = subst (λ s. Begins (g.S.Space.meaning s) c.in-Ok-new.archive.rows c.in-Ok-new.archive.count c.args.own.now) (sym made.1) begins;
+    }
 
 pub returns : goal.returns
 returns g c =

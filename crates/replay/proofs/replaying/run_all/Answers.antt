@@ -11,7 +11,7 @@ pub run-requires : goal.run-requires
 run-requires g c = c.loop-i.invariant.2
 
 pub loop-i-init : goal.loop-i-init
-loop-i-init g c = (refl, refl, c.requires.0.0, replay_none _ _ c.requires.1)
+loop-i-init g c = (refl, refl, c.requires.own_len.0, replay_none _ _ c.requires.begins)
 
 pub loop-i-preserved : goal.loop-i-preserved
 loop-i-preserved g c =
