@@ -1,5 +1,5 @@
 -- Row need, one objective at a time.
-use Rattle.std.proofs.Common.{◌≡◌, ℕ, zero, suc, ◌+◌, ◌*◌, ◌^◌, ◌≤◌, cond, eqb, ltb, refl, ap, ◌∙◌, mul-le-mul, pow-suc, add-one, arith}
+use Rattle.std.proofs.Common.{◌≡◌, ℕ, zero, suc, ◌+◌, ◌*◌, ◌^◌, ◌≤◌, cond, eqb, ltb, refl, ap, mul-le-mul, pow-suc, add-one, arith}
 use Rattle.std.proofs.lemmas.Bool.{cond_both}
 use Rattle.space.specs.Meaning.{Meaning, Lawful}
 use Rattle.history.specs.RowNeed.{first_largest, product_but}

@@ -1,5 +1,5 @@
 -- Calls that bring no trial: what stood before them stands after them.
-use Rattle.std.proofs.Common.{◌≡◌, ℕ, ◌<◌, ◌≤◌, cond, eqb, ltb, List, [], ◌++◌, map, length, take, drop, None, Ok, Err, Option, Result, sym, refl, ap, ◌∙◌, arith}
+use Rattle.std.proofs.Common.{◌≡◌, ℕ, ◌<◌, ◌≤◌, cond, eqb, ltb, List, [], length, take, Ok, Err, Option, Result, sym, refl, ap, ◌∙◌, arith}
 use Rattle.std.proofs.lemmas.Bool.{cond-false, cond-true, eq-eqb, le-ltb, lt-ltb, ne_eqb}
 use Rattle.space.specs.Meaning.{Meaning, Lawful}
 use Rattle.space.specs.declared.tagged.Trial.{Trial}
@@ -9,16 +9,15 @@ use Rattle.history.specs.declared.denials.Denial.{Denial}
 use Rattle.history.specs.declared.denials.Denial.TheVariants.{ShortList, StrangeRows}
 use Rattle.history.specs.Answers.{answer_of, audit_answer, list_answer, told}
 use Rattle.history.specs.Auditing.{first_pair}
-use Rattle.history.specs.Calls.{Call, History}
+use Rattle.history.specs.Calls.{Call}
 use Rattle.history.specs.Calls.Call.{audit, list}
 use Rattle.history.specs.Checks.{own_rows}
-use Rattle.history.specs.Stands.{Stands}
 use Rattle.history.specs.State.{brought}
 use Rattle.history.proofs.Kept.{idle_call_keeps}
 use Rattle.archive.specs.Auditing.{AuditRight}
 use Rattle.archive.specs.Lent.{Lent, members}
 use Rattle.archive.specs.Listing.{ListRight, listed_over}
-use Rattle.archive.specs.Standing.{Stays, StaysApart}
+use Rattle.archive.specs.Standing.{Stays}
 
 -- over its own rows a call answers what it finds there
 pub own : {A : Type 0} (rows lent : ℕ) (x : Result A Denial) → lent ≡ rows → own_rows rows lent x ≡ x

@@ -1,5 +1,5 @@
 -- How an archive stands under histories, before a call and after it.
-use Rattle.std.specs.Prelude.{◌≡◌, ℕ, List, length, ◌≢◌}
+use Rattle.std.specs.Prelude.{ℕ, List, length, ◌≢◌}
 use Rattle.space.specs.Meaning.{Meaning}
 use Rattle.space.specs.declared.tagged.Trial.{Trial}
 use Rattle.history.specs.declared.answers.Answer.{Answer}

@@ -29,8 +29,8 @@ pub(crate) fn close_up<S: Space>(
     rows: &mut [Trial<S::Point>],
     gone: &mut [u32],
 ) -> usize
-    requires boxes_value { boxes.now ≡ six_boxes (S.Space.meaning space.now) trial.now.point }
-    requires count_in_bounds { (count ≤ length rows.old) × (count ≤ length gone.old) }
+    requires known { boxes.now ≡ six_boxes (S.Space.meaning space.now) trial.now.point }
+    requires long { (count ≤ length rows.old) × (count ≤ length gone.old) }
     ensures { Closed (below (S.Space.meaning space.now) trial.now) count rows.old gone.old result rows.new gone.new }
 {
     let mut stay = 0;

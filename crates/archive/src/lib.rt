@@ -1,6 +1,8 @@
 // The archive: it keeps the best trials that it was offered, one for each box that no other box dominates, in rows that are
 // lent to every call. What its rows then hold is what the history of its calls says they must: the contract of each call
 // says so.
+#![tactic(auto)]
+
 mod auditing;
 mod boxing;
 mod closing;

@@ -1,5 +1,5 @@
+// The blocks of a log tried from outside, at every fault and place.
 #![tactic(auto)]
 
-// The blocks of a log tried from outside, at every fault and place.
 #[cfg(test)]
 mod log_blocks;

@@ -6,19 +6,17 @@ use Rattle.std.proofs.lemmas.List.Sorted.{length_permutation}
 use Rattle.std.proofs.lemmas.Bool.{cases_Bool, cond-false, cond-true, ltb-false}
 use Rattle.space.specs.Meaning.{Meaning}
 use Rattle.space.specs.declared.tagged.Trial.{Trial}
-use Rattle.history.specs.declared.answers.Answer.{Answer}
 use Rattle.history.specs.declared.answers.Answer.TheVariants as answer
 use Rattle.history.specs.declared.answers.Offered.{Offered}
 use Rattle.history.specs.declared.denials.Denial.{Denial}
 use Rattle.history.specs.Answers.{list_answer, told, verdict_of}
-use Rattle.history.specs.Calls.{Call}
-use Rattle.history.specs.Calls.Call.{audit, list, offer}
+use Rattle.history.specs.Calls.Call.{list, offer}
 use Rattle.history.specs.declared.denials.Denial.TheVariants.{ShortList, StrangeRows}
 use Rattle.history.specs.Checks.{own_rows}
 use Rattle.history.specs.Step.{judge}
 use Rattle.archive.specs.Lent.{Lent, members}
 use Rattle.archive.specs.Listing.{ListRight, listed_over}
-use Rattle.archive.specs.Offering.{OfferRight, TagsInFront, gone_of, gone_offered, to_judge}
+use Rattle.archive.specs.Offering.{OfferRight, TagsInFront, gone_of, to_judge}
 use Rattle.archive.specs.Standing.{Stays}
 use Rattle.replay.specs.Leaving.{Leaves, ListLeaves, OfferLeaves}
 use Rattle.replay.specs.Replaying.{Ran}

@@ -1,28 +1,23 @@
 -- One call over the archive's own rows or over strange ones, as it is asked for.
-use Rattle.std.proofs.Common.{◌≡◌, ℕ, ◌≤◌, List, [], ◌++◌, length, take, drop, Ok, Err, Option, Result, sym, refl, ap, ◌∙◌, subst}
-use Rattle.std.proofs.lemmas.List.{length-take-le, take-append-drop}
+use Rattle.std.proofs.Common.{◌≡◌, ℕ, List, length, take, Option, Result, sym, refl, ap, ◌∙◌, subst}
 use Rattle.space.specs.Meaning.{Meaning}
 use Rattle.space.specs.declared.tagged.Trial.{Trial}
 use Rattle.history.specs.declared.answers.Answer.{Answer}
 use Rattle.history.specs.declared.answers.Answer.TheVariants as answer
 use Rattle.history.specs.declared.answers.Offered.{Offered}
 use Rattle.history.specs.declared.denials.Denial.{Denial}
-use Rattle.history.specs.declared.denials.Denial.TheVariants.{StrangeRows}
-use Rattle.history.specs.Answers.{list_answer, told}
+use Rattle.history.specs.Answers.{told}
 use Rattle.history.specs.Calls.{Call}
 use Rattle.history.specs.Calls.Call.{audit, list, offer}
-use Rattle.history.specs.Checks.{offer_check}
 use Rattle.archive.specs.Auditing.{AuditRight}
-use Rattle.archive.specs.Lent.{Lent, members}
+use Rattle.archive.specs.Lent.{Lent}
 use Rattle.archive.specs.Listing.{ListRight, listed_over}
 use Rattle.archive.specs.Offering.{OfferRight}
-use Rattle.archive.specs.Standing.{Stays}
 use Rattle.archive.proofs.Idle.{strange_is}
 use Rattle.replay.specs.declared.asking.Ask.{Ask}
 use Rattle.replay.specs.Asking.{call_of}
 use Rattle.replay.specs.Leaving.{ListLeaves, OfferLeaves}
 use Rattle.replay.specs.Replaying.{Ran}
-use Rattle.replay.proofs.Strange.{strange_untouched}
 
 -- the archive with its own rows and the whole list
 abbrev pub over : {P : Type 0} → Lent P → List (Trial P) → List ℕ → Lent P

@@ -1,5 +1,5 @@
 -- An offer over strange rows.
-use Rattle.std.proofs.Common.{◌≡◌, true, length, is_err, Ok, Err, Result, sym, refl, ap, ◌∙◌}
+use Rattle.std.proofs.Common.{◌≡◌, length, is_err, Ok, Err, Result, sym, ap, ◌∙◌}
 use Rattle.space.specs.Meaning.{Meaning}
 use Rattle.space.specs.declared.tagged.Trial.{Trial}
 use Rattle.history.specs.declared.answers.Offered.{Offered}

@@ -1,10 +1,9 @@
 -- A replay, one call after the other.
-use Rattle.std.proofs.Common.{◌≡◌, ℕ, List, [], ◌∷◌, ◌++◌, map, take, sym, refl, ap, ◌∙◌, subst}
+use Rattle.std.proofs.Common.{◌≡◌, ℕ, List, [], ◌∷◌, ◌++◌, map, sym, refl, ap, ◌∙◌, subst}
 use Rattle.std.proofs.lemmas.List.{reverse-append}
 use Rattle.space.specs.Meaning.{Meaning}
-use Rattle.space.specs.declared.tagged.Trial.{Trial}
 use Rattle.history.specs.declared.answers.Answer.{Answer}
-use Rattle.history.specs.Calls.{Call, Event, History, begun, ◌▸◌}
+use Rattle.history.specs.Calls.{Call, Event, begun, ◌▸◌}
 use Rattle.history.specs.Stands.{Stands}
 use Rattle.history.specs.State.{state_of}
 use Rattle.archive.specs.Lent.{Lent, members}

@@ -1,7 +1,6 @@
 -- What holds of every replay.
 use Rattle.std.specs.Prelude.{◌≡◌, ℕ, List, Some}
 use Rattle.space.specs.Meaning.{Meaning}
-use Rattle.space.specs.declared.tagged.Trial.{Trial}
 use Rattle.history.specs.declared.answers.Answer.{Answer}
 use Rattle.history.specs.Calls.{Call, History, calls, answers}
 use Rattle.history.specs.Stands.{Stands}

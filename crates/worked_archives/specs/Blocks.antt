@@ -1,5 +1,5 @@
 -- The worked figures of log blocks, as statements about the definitions.
-use Rattle.std.specs.Prelude.{◌≡◌, ℕ, [], ◌∷◌, drop, replicate, Ok, Err}
+use Rattle.std.specs.Prelude.{◌≡◌, [], ◌∷◌, drop, replicate, Ok, Err}
 use Rattle.log_block.specs.declared.faults.BlockFault.TheVariants.{StrangeFirst}
 use Rattle.log_block.specs.declared.faults.Fault.TheVariants.{Block}
 use Rattle.log_block.specs.Block.{block_of, checked}

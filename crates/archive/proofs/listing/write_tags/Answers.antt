@@ -1,4 +1,4 @@
-use Rattle.std.proofs.Common.{refl, arith}
+use Rattle.std.proofs.Common.{arith}
 use Rattle.archive.proofs.Tags.{tags_all, tags_more}
 use Rattle.archive.proofs.listing.write_tags.Goals as goal
 

@@ -1,4 +1,4 @@
-use Rattle.std.proofs.Common.{◌≡◌, sym, ap, ◌∙◌, arith}
+use Rattle.std.proofs.Common.{sym, ap, ◌∙◌, arith}
 use Rattle.history.specs.RowNeed.{first_largest}
 use Rattle.archive.proofs.Extents.{largest_more, largest_none}
 use Rattle.archive.proofs.needing.first_largest.Goals as goal

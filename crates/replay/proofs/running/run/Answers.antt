@@ -1,4 +1,4 @@
-use Rattle.std.proofs.Common.{◌≡◌, length, sym, refl, ap}
+use Rattle.std.proofs.Common.{length, sym, refl, ap}
 use Rattle.replay.specs.Asking.{call_of}
 use Rattle.replay.proofs.Runs.{as_asked}
 use Rattle.replay.proofs.running.run.Goals as goal

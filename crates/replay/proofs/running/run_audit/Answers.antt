@@ -1,9 +1,6 @@
-use Rattle.std.proofs.Common.{◌≡◌, [], length, take, sym, refl, ap, ◌∙◌}
-use Rattle.std.proofs.lemmas.List.{length-take-le}
+use Rattle.std.proofs.Common.{◌≡◌, [], length, sym, refl, ap, ◌∙◌}
 use Rattle.history.specs.Calls.Call.{audit}
-use Rattle.archive.specs.Auditing.{AuditRight}
 use Rattle.archive.specs.Lent.{lending}
-use Rattle.replay.specs.Replaying.{Ran}
 use Rattle.replay.proofs.Runs.{as_asked, ran_audit_strange}
 use Rattle.replay.proofs.running.run_audit.Goals as goal
 

@@ -1,4 +1,4 @@
-use Rattle.std.proofs.Common.{◌≡◌, ◌≤◌, ◌++◌, length, take, drop, sym, refl, ap, ◌∙◌, rules}
+use Rattle.std.proofs.Common.{◌≡◌, ◌≤◌, length, take, sym, refl, ◌∙◌, rules}
 use Rattle.std.proofs.lemmas.List.{length-take-le}
 use Rattle.archive.specs.Lent.{lending}
 use Rattle.replay.proofs.Leavings.{ran_offer}
