@@ -6,7 +6,8 @@ use Rattle.std.proofs.lemmas.List.{get_or_past, get_or-replicate, length-map, le
 use Rattle.std.proofs.lemmas.Bool.{and_from, cases_lt, eq-eqb, lt-ltb, or_left, or_right}
 use Rattle.space.specs.Meaning.{Lawful}
 use Rattle.grid.specs.Bits.{Bits, Exact, signed_bits, unsigned_bits}
-use Rattle.grid.specs.Bytes.{all_held, figures_read, number_at, sextuple, zero_from}
+use Rattle.word.specs.Word.{number_at}
+use Rattle.grid.specs.Bytes.{all_held, figures_read, sextuple, zero_from}
 use Rattle.grid.specs.Line.{Line, LineLawful}
 use Rattle.grid.specs.Space.{admits_at, figure_at, grid_meaning}
 use Rattle.grid.proofs.Laws.{lawful_grid, past_the_last}

@@ -1,37 +1,16 @@
 -- The bytes of a grid's points keep the laws of a recording.
-use Rattle.std.proofs.Common.{◌≡◌, ℕ, zero, suc, ◌+◌, ◌*◌, ◌/◌, ◌%◌, ◌^◌, ◌<◌, ◌≤◌, true, ◌&&◌, ◌||◌, eqb, ltb, List, [], ◌∷◌, length, get_or, sym, refl, ap, ◌∙◌, subst, ⊎_elim, add-zero, arith}
-use native.Mathlib.Nat.{div-div-eq-div-mul}
-use Rattle.std.proofs.lemmas.Nat.{div-add-mod'}
+use Rattle.std.proofs.Common.{◌≡◌, ℕ, zero, suc, ◌+◌, ◌*◌, ◌/◌, ◌%◌, ◌<◌, ◌≤◌, true, ◌&&◌, ◌||◌, eqb, ltb, List, [], ◌∷◌, length, get_or, sym, refl, ap, ◌∙◌, ⊎_elim, add-zero, arith}
 use Rattle.std.proofs.lemmas.List.FromFn.{length-map-range_with_len, get_or-map-range_with_len, fill_by_all}
 use Rattle.std.proofs.lemmas.List.{get_or_past}
 use Rattle.std.proofs.ByRecursion.{All-get_or}
 use Rattle.std.proofs.lemmas.Bool.{and_parts, or_cases, eqb-true, cases_lt, both_ways, le-ltb}
-use Rattle.space.specs.Recording.{Bytes, Faithful}
+use Rattle.word.specs.Word.{Bytes, four_bytes, number_at}
+use Rattle.word.proofs.Back.{four_again, four_back}
+use Rattle.space.specs.Recording.{Faithful}
 use Rattle.grid.specs.Bits.{Bits, Exact}
 use Rattle.grid.specs.Space.{figure_at}
-use Rattle.grid.specs.Bytes.{number_at, four_bytes, figures_read, byte_at, all_held, zero_from, sextuple, grid_recording}
+use Rattle.grid.specs.Bytes.{figures_read, byte_at, all_held, zero_from, sextuple, grid_recording}
 use Rattle.grid.proofs.Tests.{all_below_each}
-
--- the four bytes of a number say that number
-four_back : (n : ℕ) → n < 2 ^ 32 → get_or (four_bytes n) 0 0 * 16777216 + get_or (four_bytes n) 1 0 * 65536 + get_or (four_bytes n) 2 0 * 256 + get_or (four_bytes n) 3 0 ≡ n
-four_back n small =
-    let top : n / 16777216 % 256 ≡ n / 16777216 = omega arith in
-    let high : n / 16777216 * 256 + n / 65536 % 256 ≡ n / 65536 = subst (λ q. q * 256 + n / 65536 % 256 ≡ n / 65536) (div-div-eq-div-mul n 65536 256) (div-add-mod' (n / 65536) 256) in
-    let middle : n / 65536 * 256 + n / 256 % 256 ≡ n / 256 = subst (λ q. q * 256 + n / 256 % 256 ≡ n / 256) (div-div-eq-div-mul n 256 256) (div-add-mod' (n / 256) 256) in
-    let low : n / 256 * 256 + n % 256 ≡ n = div-add-mod' n 256 in
-    omega (arith, top, high, middle, low)
-
--- and four bytes are those of the number that they say
-byte_back : (a b c d : ℕ) → a < 256 → b < 256 → c < 256 → d < 256 → four_bytes (a * 16777216 + b * 65536 + c * 256 + d) ≡ a ∷ b ∷ c ∷ d ∷ []
-byte_back a b c d la lb lc ld =
-    let n = a * 16777216 + b * 65536 + c * 256 + d in
-    let first : n / 16777216 % 256 ≡ a = omega arith in
-    let to-second : n / 65536 ≡ a * 256 + b = omega arith in
-    let second : n / 65536 % 256 ≡ b = omega (arith, to-second) in
-    let to-third : n / 256 ≡ a * 65536 + b * 256 + c = omega arith in
-    let third : n / 256 % 256 ≡ c = omega (arith, to-third) in
-    let fourth : n % 256 ≡ d = omega arith in
-    cc
 
 -- the four bytes of a place, by their number
 quarter : (bs : List ℕ) (i j : ℕ) → j < 4 → get_or (get_or bs (4 * i) 0 ∷ get_or bs (4 * i + 1) 0 ∷ get_or bs (4 * i + 2) 0 ∷ get_or bs (4 * i + 3) 0 ∷ []) j 0 ≡ get_or bs (4 * i + j) 0
@@ -84,7 +63,7 @@ module _ {F : Type 0} (B : Bits F) (exact : Exact B) (m : ℕ) (few : m ≤ 6) w
       let first : get_or bs (4 * i) 0 < 256 = All-get_or (λ b. b < 256) bs (4 * i) 0 (omega arith) small in
       let here : figure_at B (figures_read B bs) i ≡ B.from (number_at bs i) = get_or-map-range_with_len (λ k. B.from (number_at bs k)) 0 6 i i B.zero l (omega arith) in
       let number = ap B.to here ∙ exact.number_back (number_at bs i) (omega (arith, first, byte 1 (omega arith), byte 2 (omega arith), byte 3 (omega arith))) in
-      let four = ap four_bytes number ∙ byte_back (get_or bs (4 * i) 0) (get_or bs (4 * i + 1) 0) (get_or bs (4 * i + 2) 0) (get_or bs (4 * i + 3) 0) first (byte 1 (omega arith)) (byte 2 (omega arith)) (byte 3 (omega arith)) in
+      let four = ap four_bytes number ∙ four_again (get_or bs (4 * i) 0) (get_or bs (4 * i + 1) 0) (get_or bs (4 * i + 2) 0) (get_or bs (4 * i + 3) 0) first (byte 1 (omega arith)) (byte 2 (omega arith)) (byte 3 (omega arith)) in
       ap (λ xs. get_or xs j 0) four ∙ quarter bs i j s
 
   pub faithful_grid : Faithful (grid_recording B m)

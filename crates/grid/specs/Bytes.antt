@@ -1,17 +1,10 @@
 -- A grid's points as bytes: four for each objective, the highest first.
-use Rattle.std.specs.Prelude.{ℕ, ◌+◌, ◌*◌, ◌/◌, ◌%◌, Bool, ◌&&◌, ◌||◌, List, [], ◌∷◌, map, length, ◌==◌, nat_lt, slice_index}
+use Rattle.std.specs.Prelude.{ℕ, ◌*◌, ◌/◌, ◌%◌, Bool, ◌&&◌, ◌||◌, List, map, length, ◌==◌, nat_lt, slice_index}
 use Rattle.std.specs.List.{range_with_len}
+use Rattle.word.specs.Word.{four_bytes, number_at}
 use Rattle.space.specs.Recording.{Recording}
 use Rattle.grid.specs.Bits.{Bits}
 use Rattle.grid.specs.Space.{figure_at, all_below}
-
--- the number in the four bytes of place i, the highest first
-abbrev pub number_at : List ℕ → ℕ → ℕ
-number_at bs i = slice_index bs (4 * i) * 16777216 + slice_index bs (4 * i + 1) * 65536 + slice_index bs (4 * i + 2) * 256 + slice_index bs (4 * i + 3)
-
--- the four bytes of a number, the highest first
-abbrev pub four_bytes : ℕ → List ℕ
-four_bytes n = (n / 16777216 % 256) ∷ (n / 65536 % 256) ∷ (n / 256 % 256) ∷ (n % 256) ∷ []
 
 -- the six figures that the bytes say, zero past their end
 abbrev pub figures_read : {F : Type 0} → Bits F → List ℕ → List F

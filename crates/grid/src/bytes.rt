@@ -1,7 +1,8 @@
 // Figures as bytes: four each, the highest first.
 ghost use Rattle.std.specs.Prelude.{◌≡◌, ℕ, ◌/◌, ◌<◌, true, map, length, slice_index};
 ghost use Rattle.std.specs.List.{range_with_len};
-ghost use Rattle.grid.specs.Bytes.{byte_at, figures_read, number_at};
+ghost use Rattle.word.specs.Word.{number_at};
+ghost use Rattle.grid.specs.Bytes.{byte_at, figures_read};
 ghost use Rattle.grid.specs.Space.{figure_at};
 
 use crate::compare::figure_at;

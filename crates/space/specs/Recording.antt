@@ -1,6 +1,6 @@
 -- How the points of a recorded space are bytes, and the laws that this keeps.
-use Rattle.std.specs.Prelude.{◌≡◌, ℕ, ◌*◌, ◌<◌, Bool, true, cond, List, length, replicate, Ok, Err, Result, ◌==◌}
-use Rattle.std.specs.List.{AllByRecursion}
+use Rattle.std.specs.Prelude.{◌≡◌, ℕ, ◌*◌, Bool, true, cond, List, length, replicate, Ok, Err, Result, ◌==◌}
+use Rattle.word.specs.Word.{Bytes}
 use Rattle.space.specs.Meaning.{Meaning}
 use Rattle.space.specs.declared.recording.Unread.{Unread}
 use Rattle.space.specs.declared.recording.Unwritten.{Unwritten}
@@ -11,10 +11,6 @@ pub record Recording (P : Type 0) : Type 0 where
   pub writable : P → Bool
   pub reads : List ℕ → P
   pub writes : P → List ℕ
-
--- each number is a byte
-abbrev pub Bytes : List ℕ → Type 0
-Bytes bs = AllByRecursion (λ b. b < 256) bs
 
 -- the laws: a writable point reads back, bytes of the right length write back, and every point takes the same number of bytes
 pub record Faithful {P : Type 0} (R : Recording P) : Type 0 where

@@ -2,7 +2,7 @@ use Rattle.std.proofs.Common.{◌≡◌, ℕ, ◌+◌, ◌<◌, get_or, set, sym
 use Rattle.std.proofs.lemmas.List.{length-set}
 use Rattle.std.proofs.lemmas.List.Edits.{fill_by_more}
 use Rattle.std.proofs.lemmas.List.FromFn.{fill_by_all}
-use Rattle.grid.specs.Bytes.{number_at}
+use Rattle.word.specs.Word.{number_at}
 use Rattle.grid.proofs.bytes.read_figures.Goals as goal
 
 pub loop-i-preserved : goal.loop-i-preserved

@@ -1,5 +1,5 @@
 use Rattle.std.proofs.Common.{◌≡◌, ℕ, ◌<◌, length, get_or}
-use Rattle.grid.specs.Bytes.{number_at}
+use Rattle.word.specs.Word.{number_at}
 use Rattle.grid.proofs.bytes.read_figures.Given as goal
 
 abbrev pub invariant-loop-i : goal.invariant-loop-i
