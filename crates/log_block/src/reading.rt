@@ -103,11 +103,20 @@ impl<'a> Records<'a> {
         };
         Some((placed, after))
     }
+}
+
+impl<'a> Iterator for Records<'a> {
+    ghost use Rattle.std.specs.Iterator.{item_count, YieldsFirstBy};
+    ghost use Rattle.log_block.specs.Reading.{left_to_read, seen_at};
+
+    type Item = Placed<'a>;
+
+    ghost next_gives = { YieldsFirstBy seen_at left_to_read };
+
+    ghost remaining = { item_count left_to_read };
 
     // The next record with its place, or none after the last.
-    pub fn next(&mut self) -> Option<Placed<'a>>
-        ensures { MatchOption result ((left_to_read self.old ≡ []) × (left_to_read self.new ≡ [])) (λ p. left_to_read self.old ≡ seen_at p ∷ left_to_read self.new) }
-    {
+    fn next(&mut self) -> Option<Placed<'a>> {
         let (placed, after) = self.split()?;
         *self = after;
         Some(placed)
