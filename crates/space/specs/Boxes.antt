@@ -1,4 +1,4 @@
--- How points and their boxes compare: relations, which statements speak of, and the same as tests, which steps are made of.
+-- How points and their boxes compare, as relations: every statement on what stands or is held speaks of these.
 use Rattle.std.specs.Prelude.{◌≡◌, ℕ, ◌<◌, ◌≤◌, true, false}
 use Rattle.space.specs.Meaning.{Meaning}
 
