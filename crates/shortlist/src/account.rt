@@ -1,5 +1,5 @@
 // The account that is printed: what was refused and why, where each trial lies, which boxes stand, and the totals.
-use crate::scales::{HIGHEST, LONGEST, LoggerSpace, Point, trial_of};
+use logger::{HIGHEST, LONGEST, LoggerSpace, Point, trial_of};
 use entry::{Entry, Malformed};
 use space::{Space, Trial};
 use standing::{opens_box, same_box, trial_stands};

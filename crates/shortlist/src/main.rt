@@ -4,11 +4,10 @@
 #![tactic(auto)]
 
 mod account;
-mod scales;
 
 use account::{print_boxes, print_refusals, print_space, print_trials};
 use entry::read_entries;
-use scales::{logger_space, trials_of};
+use logger::{logger_space, trials_of};
 use std::io::Read;
 
 fn main(rt: HostRuntime) -> anyhow::Result<()> {
@@ -16,7 +15,7 @@ fn main(rt: HostRuntime) -> anyhow::Result<()> {
 }
 
 fn run(rt: &HostRuntime) -> anyhow::Result<()> {
-    let space = logger_space()?;
+    let space = logger_space();
     let mut text = Vec::new(rt.alloc());
     rt.stdin().read_to_end(&mut text)?;
     let lines = read_entries(rt.alloc(), text.as_slice())?;

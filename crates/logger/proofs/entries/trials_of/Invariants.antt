@@ -1,6 +1,6 @@
 use Rattle.std.proofs.Common.{◌≡◌, ◌++◌, drop, vec_items}
-use Rattle.shortlist.specs.Logger.{trials_of}
-use Rattle.shortlist.proofs.scales.trials_of.Given as goal
+use Rattle.logger.specs.Logger.{trials_of}
+use Rattle.logger.proofs.entries.trials_of.Given as goal
 
 -- the trials so far, before those of the lines that are left, are all of them
 abbrev pub invariant-loop-line : goal.invariant-loop-line

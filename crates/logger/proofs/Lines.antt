@@ -4,7 +4,7 @@ use Rattle.std.proofs.lemmas.List.{append_assoc, at_drop_more}
 use Rattle.space.specs.declared.tagged.Trial.{Trial}
 use Rattle.entry.specs.declared.outcome.Entry.{Entry}
 use Rattle.entry.specs.declared.outcome.Malformed.{Malformed}
-use Rattle.shortlist.specs.Logger.{trial_of, trials_of}
+use Rattle.logger.specs.Logger.{trial_of, trials_of}
 
 module _ (ts : List (Trial (List ℤ × List ℕ))) (ls : List (Result Entry Malformed)) (i : ℕ) (d : Result Entry Malformed) (within : i < length ls) where
   -- a line that tells of a trial

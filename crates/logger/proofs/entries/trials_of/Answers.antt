@@ -1,9 +1,9 @@
 use Rattle.std.proofs.Common.{◌++◌, vec_items, sym, ap, ◌∙◌}
 use Rattle.std.proofs.lemmas.List.{append-nil, at_drop_all}
-use Rattle.shortlist.specs.Logger.{trials_of}
-use Rattle.shortlist.proofs.Lines.{told_more, told_none}
-use Rattle.shortlist.proofs.scales.trials_of.Goals as goal
-use Rattle.shortlist.proofs.scales.trials_of.Goals.{in-Ok+in_ok-push, in_default}
+use Rattle.logger.specs.Logger.{trials_of}
+use Rattle.logger.proofs.Lines.{told_more, told_none}
+use Rattle.logger.proofs.entries.trials_of.Goals as goal
+use Rattle.logger.proofs.entries.trials_of.Goals.{in-Ok+in_ok-push, in_default}
 
 pub loop-line-preserved : goal.loop-line-preserved
 loop-line-preserved c = elim c.match-line.branch [

@@ -1,0 +1,34 @@
+// The trials that the entries of a text tell of.
+ghost use Rattle.std.specs.Prelude.{◌≡◌, IfOk};
+ghost use Rattle.logger.specs.Logger.{trial_of, trials_of};
+
+use crate::scales::Point;
+use entry::{Entry, Malformed};
+use space::Trial;
+use std::alloc::{AllocError, Global};
+
+// The trial that an entry tells of.
+pub fn trial_of(entry: &Entry) -> Trial<Point>
+    ensures { result ≡ trial_of entry.now }
+{
+    Trial {
+        point: ([entry.delay, 0, 0, 0, 0, 0], [entry.life, 0, 0, 0, 0, 0]),
+        tag: entry.tag,
+    }
+}
+
+// The trials of the lines that tell of one, on the grid or not, in their order.
+pub fn trials_of(
+    heap: Global,
+    lines: &[Result<Entry, Malformed>],
+) -> Result<Vec<Trial<Point>>, AllocError>
+    ensures { IfOk result (λ v. v.items ≡ trials_of lines.now) }
+{
+    let mut trials = Vec::new(heap);
+    for line in lines {
+        if let Ok(entry) = line {
+            trials.push(trial_of(entry))?;
+        }
+    }
+    Ok(trials)
+}
