@@ -1,20 +1,18 @@
 -- The trials of a text, line by line.
-use Rattle.std.proofs.Common.{◌≡◌, ℕ, ◌+◌, ◌<◌, List, [], ◌∷◌, ◌++◌, length, get_or, drop, ℤ, Ok, Err, Result, sym, ap, ◌∙◌}
+use Rattle.std.proofs.Common.{◌≡◌, ℕ, ◌+◌, ◌<◌, List, [], ◌∷◌, ◌++◌, length, get_or, drop, ℤ, Ok, Err, Result, refl, sym, ap, ◌∙◌}
 use Rattle.std.proofs.lemmas.List.{append_assoc, at_drop_more}
 use Rattle.space.specs.declared.tagged.Trial.{Trial}
 use Rattle.entry.specs.declared.outcome.Entry.{Entry}
 use Rattle.entry.specs.declared.outcome.Malformed.{Malformed}
-use Rattle.logger.specs.Logger.{trial_of, trials_of}
+use Rattle.logger.specs.Logger.{trials_of}
 
-module _ (ts : List (Trial (List ℤ × List ℕ))) (ls : List (Result Entry Malformed)) (i : ℕ) (d : Result Entry Malformed) (within : i < length ls) where
-  -- a line that tells of a trial
-  pub told_more : (e : Entry) → get_or ls i d ≡ Ok e → ts ++ trials_of (drop i ls) ≡ trials_of ls → (ts ++ (trial_of e ∷ [])) ++ trials_of (drop (i + 1) ls) ≡ trials_of ls
-  told_more e is so_far =
-      let next : trials_of (drop i ls) ≡ trial_of e ∷ trials_of (drop (i + 1) ls) = at_drop_more trials_of ls i d within ∙ ap (λ x. trials_of (x ∷ drop (i + 1) ls)) is in
-      append_assoc ts (trial_of e ∷ []) (trials_of (drop (i + 1) ls)) ∙ ap (λ r. ts ++ r) (sym next) ∙ so_far
+-- the trials of the first line, and then those of the others
+first_line : (l : Result Entry Malformed) (ls : List (Result Entry Malformed)) → trials_of (l ∷ ls) ≡ trials_of (l ∷ []) ++ trials_of ls
+first_line (Ok e) ls = refl
+first_line (Err m) ls = refl
 
-  -- a line that does not
-  pub told_none : (m : Malformed) → get_or ls i d ≡ Err m → ts ++ trials_of (drop i ls) ≡ trials_of ls → ts ++ trials_of (drop (i + 1) ls) ≡ trials_of ls
-  told_none m is so_far =
-      let next : trials_of (drop i ls) ≡ trials_of (drop (i + 1) ls) = at_drop_more trials_of ls i d within ∙ ap (λ x. trials_of (x ∷ drop (i + 1) ls)) is in
-      ap (λ r. ts ++ r) (sym next) ∙ so_far
+-- one line more
+pub one_more : (ts : List (Trial (List ℤ × List ℕ))) (ls : List (Result Entry Malformed)) (i : ℕ) (d : Result Entry Malformed) → i < length ls → ts ++ trials_of (drop i ls) ≡ trials_of ls → (ts ++ trials_of (get_or ls i d ∷ [])) ++ trials_of (drop (i + 1) ls) ≡ trials_of ls
+one_more ts ls i d within so_far =
+    let next = at_drop_more trials_of ls i d within ∙ first_line (get_or ls i d) (drop (i + 1) ls) in
+    append_assoc ts (trials_of (get_or ls i d ∷ [])) (trials_of (drop (i + 1) ls)) ∙ ap (λ r. ts ++ r) (sym next) ∙ so_far

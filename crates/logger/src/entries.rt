@@ -1,5 +1,5 @@
 // The trials that the entries of a text tell of.
-ghost use Rattle.std.specs.Prelude.{◌≡◌, IfOk};
+ghost use Rattle.std.specs.Prelude.{◌≡◌, [], ◌∷◌, ◌++◌, IfOk, OnOk};
 ghost use Rattle.logger.specs.Logger.{trial_of, trials_of};
 
 use crate::scales::Point;
@@ -17,7 +17,17 @@ pub fn trial_of(entry: &Entry) -> Trial<Point>
     }
 }
 
-// The trials of the lines that tell of one, on the grid or not, in their order.
+// Adds the trial of a line, on the grid or not, if it tells of one.
+fn add(trials: &mut Vec<Trial<Point>>, line: &Result<Entry, Malformed>) -> Result<(), AllocError>
+    ensures { OnOk result (trials.new.items ≡ trials.old.items ++ trials_of (line.now ∷ [])) }
+{
+    if let Ok(entry) = line {
+        trials.push(trial_of(entry))?;
+    }
+    Ok(())
+}
+
+// The trials of the lines that tell of one, in their order.
 pub fn trials_of(
     heap: Global,
     lines: &[Result<Entry, Malformed>],
@@ -26,9 +36,7 @@ pub fn trials_of(
 {
     let mut trials = Vec::new(heap);
     for line in lines {
-        if let Ok(entry) = line {
-            trials.push(trial_of(entry))?;
-        }
+        add(&mut trials, line)?;
     }
     Ok(trials)
 }
