@@ -148,3 +148,47 @@ fn denials(rt: HostRuntime) -> Result<(), Fail> {
     assert_eq!(rt; archive.list(&rows, &mut []), Err(Denial::ShortList));
     Ok(())
 }
+
+#[test]
+fn rows_that_came_from_no_history(rt: HostRuntime) -> Result<(), Fail> {
+    let Ok(space) = square(9, 1) else {
+        assert!(rt; false);
+        return Ok(());
+    };
+    let mut rows = [at(0, 0, 0); 4];
+    let mut list = [77; 4];
+    let Ok(mut archive) = Archive::new(space, &rows) else {
+        assert!(rt; false);
+        return Ok(());
+    };
+    for trial in [at(1, 1, 9), at(2, 5, 5), at(3, 9, 1)] {
+        assert_eq!(rt;
+            archive.offer(trial, &mut rows, &mut list),
+            judged(Verdict::Entered, 0)
+        );
+    }
+    rows[2] = at(3, 5, 5);
+    assert_eq!(rt; archive.audit(&rows), Ok(Some((1, 2))));
+    rows[2] = at(3, 0, 9);
+    assert_eq!(rt; archive.audit(&rows), Ok(Some((0, 2))));
+    rows[1] = at(2, 10, 5);
+    assert_eq!(rt; archive.audit(&rows), Ok(Some((0, 1))));
+    rows[0] = at(1, -1, 9);
+    assert_eq!(rt; archive.audit(&rows), Ok(Some((0, 0))));
+    rows[0] = at(1, 1, 9);
+    rows[1] = at(2, 9, 1);
+    rows[2] = at(3, 9, 1);
+    assert_eq!(rt; archive.audit(&rows), Ok(Some((1, 2))));
+    assert_eq!(rt;
+        archive.offer(at(4, 9, 1), &mut rows, &mut list),
+        judged(Verdict::PassedOver, 0)
+    );
+    assert_eq!(rt;
+        archive.offer(at(5, 9, 2), &mut rows, &mut list),
+        judged(Verdict::Displaced, 2)
+    );
+    assert!(rt; list == [2, 3, 77, 77] || list == [3, 2, 77, 77]);
+    assert_eq!(rt; archive.list(&rows, &mut list), Ok(2));
+    assert!(rt; list[..2] == [1, 5]);
+    Ok(())
+}

@@ -2,6 +2,8 @@
 #![tactic(auto)]
 
 #[cfg(test)]
+mod any_space;
+#[cfg(test)]
 mod archives;
 #[cfg(test)]
 mod replays;

@@ -1,15 +1,20 @@
 // A list of calls, denied ones among them, and every answer of it.
 use crate::squares::{at, square};
 use history::{Answer, Denial, Offered, Verdict};
-use replay::{Ask, Unplayed, replay};
+use replay::{Ask, Turn, replay};
 use std::test::Fail;
 
-fn offer(rows: usize, room: usize, tag: u32, x: i32, y: i32) -> Ask<[i32; 6]> {
-    Ask::Offer {
+// A call with no answer yet.
+fn turn(ask: Ask<[i32; 6]>) -> Turn<Ask<[i32; 6]>> {
+    Turn { ask, answer: None }
+}
+
+fn offer(rows: usize, room: usize, tag: u32, x: i32, y: i32) -> Turn<Ask<[i32; 6]>> {
+    turn(Ask::Offer {
         rows,
         room,
         trial: at(tag, x, y),
-    }
+    })
 }
 
 // The answer to an offered trial that is judged.
@@ -26,19 +31,19 @@ fn calls_and_answers(rt: HostRuntime) -> Result<(), Fail> {
     let mut own = [at(0, 0, 0); 2];
     let mut strange = [at(9, 9, 9); 3];
     let mut list = [77; 3];
-    let asks = [
+    let mut turns = [
         offer(2, 2, 1, 1, 9),
         offer(3, 3, 2, 9, 0),
         offer(2, 1, 2, 9, 0),
         offer(2, 2, 2, 9, 0),
         offer(2, 3, 3, 5, 5),
         offer(2, 3, 4, 9, 1),
-        Ask::Audit { rows: 2 },
-        Ask::Audit { rows: 1 },
-        Ask::List { rows: 2, room: 1 },
-        Ask::List { rows: 2, room: 3 },
+        turn(Ask::Audit { rows: 2 }),
+        turn(Ask::Audit { rows: 1 }),
+        turn(Ask::List { rows: 2, room: 1 }),
+        turn(Ask::List { rows: 2, room: 3 }),
     ];
-    let Ok(played) = replay(rt.alloc(), space, &mut own, &mut strange, &mut list, &asks) else {
+    let Ok(archive) = replay(space, &mut own, &mut strange, &mut list, &mut turns) else {
         assert!(rt; false);
         return Ok(());
     };
@@ -54,8 +59,11 @@ fn calls_and_answers(rt: HostRuntime) -> Result<(), Fail> {
         Answer::Denied(Denial::ShortList),
         Answer::Listed(2),
     ];
-    assert_eq!(rt; played.answers.as_slice(), told.as_slice());
+    for i in 0..10 {
+        assert_eq!(rt; turns[i].answer, Some(told[i]));
+    }
     assert_eq!(rt; list, [1, 4, 77]);
+    assert_eq!(rt; archive.list(&own, &mut list), Ok(2));
     assert_eq!(rt; strange[2].tag, 9);
     Ok(())
 }
@@ -66,10 +74,11 @@ fn a_replay_over_no_rows(rt: HostRuntime) -> Result<(), Fail> {
         assert!(rt; false);
         return Ok(());
     };
-    let asks = [Ask::Audit { rows: 0 }];
-    match replay(rt.alloc(), space, &mut [], &mut [], &mut [], &asks) {
-        Err(Unplayed::Refused(refused)) => assert_eq!(rt; refused.denial, Denial::NoRows),
-        _ => assert!(rt; false),
+    let mut turns = [turn(Ask::Audit { rows: 0 })];
+    match replay(space, &mut [], &mut [], &mut [], &mut turns) {
+        Err(refused) => assert_eq!(rt; refused.denial, Denial::NoRows),
+        Ok(_) => assert!(rt; false),
     }
+    assert_eq!(rt; turns[0].answer, None);
     Ok(())
 }

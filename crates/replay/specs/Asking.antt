@@ -1,9 +1,11 @@
--- What a call is really lent where so much is wanted.
-use Rattle.std.specs.Prelude.{ℕ, min, cond, ◌==◌}
+-- What a call is really lent where so much is wanted, and the answers beside the calls.
+use Rattle.std.specs.Prelude.{ℕ, min, cond, List, map, Option, ◌==◌}
+use Rattle.history.specs.declared.answers.Answer.{Answer}
 use Rattle.history.specs.Calls.{Call}
 use Rattle.history.specs.Calls.Call.{offer, audit, list}
 use Rattle.replay.specs.declared.asking.Ask.{Ask}
 use Rattle.replay.specs.declared.asking.Ask.TheVariants as ask
+use Rattle.replay.specs.declared.asking.Turn.{Turn}
 
 -- how many rows: the archive's own, or else as many strange ones as there are
 abbrev pub lent_of : ℕ → ℕ → ℕ → ℕ
@@ -14,3 +16,10 @@ abbrev pub call_of : {P : Type 0} → ℕ → ℕ → ℕ → Ask P → Call P
 call_of own other long (ask.Offer rows room t) = offer (lent_of own other rows) (min room long) t
 call_of own other long (ask.Audit rows) = audit (lent_of own other rows)
 call_of own other long (ask.List rows room) = list (lent_of own other rows) (min room long)
+
+-- the calls that are asked for, in order, and the answers beside them
+abbrev pub asks_in : {A : Type 0} → List (Turn A) → List A
+asks_in turns = map (λ t. t.ask) turns
+
+abbrev pub answers_in : {A : Type 0} → List (Turn A) → List (Option Answer)
+answers_in turns = map (λ t. t.answer) turns

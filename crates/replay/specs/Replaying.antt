@@ -1,14 +1,11 @@
 -- What holds of every replay.
-use Rattle.std.specs.Prelude.{◌≡◌, ℕ, List, Some}
+use Rattle.std.specs.Prelude.{◌≡◌, ℕ, List, map, Some, Option}
 use Rattle.space.specs.Meaning.{Meaning}
 use Rattle.history.specs.declared.answers.Answer.{Answer}
 use Rattle.history.specs.Calls.{Call, History, calls, answers}
 use Rattle.history.specs.Stands.{Stands}
 use Rattle.archive.specs.Lent.{Lent, members}
 use Rattle.archive.specs.Standing.{Stays}
-use Rattle.history.specs.Checks.{making_denial}
-use Rattle.replay.specs.declared.outcome.Unplayed.{Unplayed}
-use Rattle.replay.specs.declared.outcome.Unplayed.TheVariants.{Refused, Memory}
 use Rattle.replay.specs.Leaving.{Leaves, Left}
 
 -- one call with its answer, over the archive's own rows and the whole list: a is the archive with these before, and b after
@@ -19,14 +16,9 @@ pub record Ran {P : Type 0} (M : Meaning P) (call : Call P) (a : Lent P) (r : An
 
 -- all calls: there is a history of the calls that were made and the answers that are handed back; the archive and its rows
 -- stand under it, however bytes become points; and the list holds what these calls leave in it
-pub record ReplayRight {P : Type 0} (M : Meaning P) (made : List (Call P)) (told : List Answer) (before : List ℕ) (b : Lent P) : Type 0 where
+pub record ReplayRight {P : Type 0} (M : Meaning P) (made : List (Call P)) (told : List (Option Answer)) (before : List ℕ) (b : Lent P) : Type 0 where
   pub history : History P
   pub called : calls history ≡ made
-  pub answered : answers history ≡ told
+  pub answered : map Some (answers history) ≡ told
   pub stands : (reads : List ℕ → P) → Stands M reads history b.rows b.count b.held
   pub list : (reads : List ℕ → P) → Left M reads b.rows history.events before b.list
-
--- nothing was run: the making is denied, or there is no memory for the answers; the space is handed back
-abbrev pub UnplayedRight : {S : Type 0} → S → ℕ → Unplayed S → Type 0
-UnplayedRight space rows (Refused x) = (making_denial rows ≡ Some x.denial) × (x.space ≡ space)
-UnplayedRight space rows (Memory s) = s ≡ space

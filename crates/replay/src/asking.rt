@@ -1,4 +1,5 @@
-// What is asked of an archive.
+// What is asked of an archive, and what it answers.
+use history::Answer;
 use space::Trial;
 
 // A call with what it is to be lent: how many rows, and how much of the list.
@@ -16,4 +17,11 @@ pub enum Ask<P> {
         rows: usize,
         room: usize,
     },
+}
+
+// A call that is asked for, with the place for its answer.
+#[derive(Drop)]
+pub struct Turn<A> {
+    pub ask: A,
+    pub answer: Option<Answer>,
 }

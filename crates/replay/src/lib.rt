@@ -1,12 +1,11 @@
 // Replay: an archive is made over lent rows, and a list of calls is run on it, denied ones among them. It hands back every
-// answer, and its contract says of what history they are: so a journal of what an archive was asked can be held against it.
+// answer beside its call, and its contract says of what history they are: so a journal of what an archive was asked can be
+// held against it.
 #![tactic(auto)]
 
 mod asking;
-mod outcome;
 mod replaying;
 mod running;
 
-pub use asking::Ask;
-pub use outcome::{Replayed, Unplayed};
+pub use asking::{Ask, Turn};
 pub use replaying::replay;

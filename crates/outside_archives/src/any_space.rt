@@ -1,0 +1,125 @@
+// Every call over a space that is no grid and has no bytes.
+use archive::{Archive, row_need};
+use history::{Answer, Denial, Offered, Verdict};
+use outside::{Share, Triangle};
+use replay::{Ask, Turn, replay};
+use space::Trial;
+use std::test::Fail;
+
+fn share(tag: u32, reads: u32, writes: u32) -> Trial<Share> {
+    Trial {
+        point: Share { reads, writes },
+        tag,
+    }
+}
+
+// Boxes (0, 0, 1), (1, 1, 0), (2, 0, 0), (0, 0, 2), (1, 1, 0) again, and off the grid.
+fn trials() -> [Trial<Share>; 6] {
+    [
+        share(1, 2, 2),
+        share(2, 4, 4),
+        share(3, 8, 1),
+        share(4, 0, 0),
+        share(5, 5, 5),
+        share(6, 7, 7),
+    ]
+}
+
+// What comes of them over two rows.
+fn fates() -> [Result<Offered, Denial>; 6] {
+    let fate = |verdict, displaced| Ok(Offered { verdict, displaced });
+    [
+        fate(Verdict::Entered, 0),
+        fate(Verdict::Entered, 0),
+        Err(Denial::Full),
+        fate(Verdict::Displaced, 1),
+        fate(Verdict::PassedOver, 0),
+        Err(Denial::OffGrid),
+    ]
+}
+
+#[test]
+fn calls_over_a_triangle(rt: HostRuntime) -> Result<(), Fail> {
+    assert_eq!(rt; row_need(&Triangle), 9);
+    let mut rows = [share(0, 0, 0); 2];
+    let mut list = [77; 2];
+    let Ok(mut archive) = Archive::new(Triangle, &rows) else {
+        assert!(rt; false);
+        return Ok(());
+    };
+    let trials = trials();
+    let fates = fates();
+    for i in 0..6 {
+        assert_eq!(rt; archive.offer(trials[i], &mut rows, &mut list), fates[i]);
+    }
+    assert_eq!(rt; list, [1, 77]);
+    assert_eq!(rt; archive.audit(&rows), Ok(None));
+    assert_eq!(rt; archive.list(&rows, &mut list), Ok(2));
+    assert_eq!(rt; list, [2, 4]);
+    assert_eq!(rt;
+        rows[0].point,
+        Share {
+            reads: 4,
+            writes: 4
+        }
+    );
+    assert_eq!(rt;
+        rows[1].point,
+        Share {
+            reads: 0,
+            writes: 0
+        }
+    );
+    assert_eq!(rt; archive.audit(&rows[..1]), Err(Denial::StrangeRows));
+    assert_eq!(rt; archive.list(&rows, &mut list[..1]), Err(Denial::ShortList));
+    Ok(())
+}
+
+// A call with no answer yet.
+fn turn(ask: Ask<Share>) -> Turn<Ask<Share>> {
+    Turn { ask, answer: None }
+}
+
+fn offer(trial: Trial<Share>) -> Turn<Ask<Share>> {
+    turn(Ask::Offer {
+        rows: 2,
+        room: 2,
+        trial,
+    })
+}
+
+#[test]
+fn a_replay_over_a_triangle(rt: HostRuntime) -> Result<(), Fail> {
+    let mut own = [share(0, 0, 0); 2];
+    let mut strange = [share(9, 9, 9); 1];
+    let mut list = [77; 2];
+    let trials = trials();
+    let mut turns = [
+        offer(trials[0]),
+        offer(trials[1]),
+        offer(trials[2]),
+        offer(trials[3]),
+        offer(trials[4]),
+        offer(trials[5]),
+        turn(Ask::Audit { rows: 1 }),
+        turn(Ask::Audit { rows: 2 }),
+        turn(Ask::List { rows: 2, room: 2 }),
+    ];
+    let Ok(_) = replay(Triangle, &mut own, &mut strange, &mut list, &mut turns) else {
+        assert!(rt; false);
+        return Ok(());
+    };
+    let fates = fates();
+    for i in 0..6 {
+        let told = match fates[i] {
+            Ok(offered) => Answer::Offered(offered),
+            Err(denial) => Answer::Denied(denial),
+        };
+        assert_eq!(rt; turns[i].answer, Some(told));
+    }
+    assert_eq!(rt; turns[6].answer, Some(Answer::Denied(Denial::StrangeRows)));
+    assert_eq!(rt; turns[7].answer, Some(Answer::Audited(None)));
+    assert_eq!(rt; turns[8].answer, Some(Answer::Listed(2)));
+    assert_eq!(rt; list, [2, 4]);
+    Ok(())
+}
