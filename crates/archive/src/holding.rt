@@ -1,5 +1,5 @@
 // What an archive remembers.
-ghost use Rattle.std.specs.Prelude.{◌≤◌};
+ghost use Rattle.std.specs.Prelude.{◌≡◌, ◌≤◌};
 
 // Its space, how many rows it was made for, and how many of them hold members: these are the first ones.
 #[derive(Drop)]
@@ -8,4 +8,13 @@ pub struct Archive<S> {
     pub(crate) rows: usize,
     pub(crate) count: usize,
     ghost within: { count ≤ rows },
+}
+
+impl<S> Archive<S> {
+    // How many of the rows hold members: the first ones.
+    pub fn count(&self) -> usize
+        ensures { result ≡ self.now.count }
+    {
+        self.count
+    }
 }

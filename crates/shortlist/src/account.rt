@@ -1,6 +1,6 @@
 // The account that is printed: what was refused and why, where each trial lies, which boxes stand, and the totals.
-use logger::{HIGHEST, LONGEST, LoggerSpace, Point, trial_of};
 use entry::{Entry, Malformed};
+use logger::{HIGHEST, LONGEST, LoggerSpace, Point, trial_of};
 use space::{Space, Trial};
 use standing::{opens_box, same_box, trial_stands};
 

@@ -1,14 +1,19 @@
 // Reads the trials of one logger from standard input, a line each, and prints which of them stand: the boxes that no
-// other trial's box dominates and the trials that no other dominates, by definition alone and with no archive.
-// It is the plain yardstick for what an archive may hold.
+// other trial's box dominates and the trials that no other dominates, by definition alone. Then it offers the trials to an
+// archive, and prints each verdict, the rows at the end, and that these hold the boxes that stand.
 #![tactic(auto)]
 
 mod account;
+mod offers;
+mod verdicts;
 
 use account::{print_boxes, print_refusals, print_space, print_trials};
+use anyhow::anyhow;
 use entry::read_entries;
 use logger::{logger_space, trials_of};
+use offers::offer_all;
 use std::io::Read;
+use verdicts::{hold_what_stands, print_offers, print_rows};
 
 fn main(rt: HostRuntime) -> anyhow::Result<()> {
     run(&rt)
@@ -33,5 +38,13 @@ fn run(rt: &HostRuntime) -> anyhow::Result<()> {
     println!(rt;
         "lines {read} malformed {malformed} refused {off_grid} trials {judged} not dominated {not_dominated} boxes {boxes}"
     )?;
+
+    let offers = offer_all(rt.alloc(), trials.as_slice())?;
+    print_offers(rt, offers.turns.as_slice())?;
+    print_rows(rt, &space, offers.members.as_slice())?;
+    if !hold_what_stands(&space, trials.as_slice(), offers.members.as_slice()) {
+        return Err(anyhow!("the boxes held are not those that stand"));
+    }
+    println!(rt; "the boxes held are those that stand")?;
     Ok(())
 }
