@@ -1,4 +1,4 @@
-use Rattle.std.proofs.Common.{◌+◌, ◌<◌, [], ◌∷◌, ◌++◌, map, length, get_or, take, set, Some, sym, refl, ap, ◌∙◌, subst, arith}
+use Rattle.std.proofs.Common.{◌+◌, ◌<◌, ◌≤◌, [], ◌∷◌, ◌++◌, map, length, get_or, take, set, Some, sym, refl, ap, ◌∙◌, subst, arith}
 use Rattle.std.proofs.lemmas.List.{map-append, take_all}
 use Rattle.archive.specs.Lent.{lending}
 use Rattle.replay.specs.declared.asking.Ask.{Ask}
@@ -46,7 +46,8 @@ returns g c =
     let M = g.S.Space.meaning c.args.archive.now.space in
     let call = call_of (length c.args.own.now) (length c.args.strange.now) (length c.args.list.now) in
     let b = lending c.loop-i.archive c.loop-i.own c.loop-i.list in
-    let all = take_all c.loop-i.i c.loop-i.turns (omega (arith, c.loop-i.auto.turns, c.loop-i-test.false)) in
+    let done : length c.loop-i.turns ≤ c.loop-i.i = omega (arith, c.loop-i.auto.turns, c.loop-i-test.false) in
+    let all = take_all c.loop-i.i c.loop-i.turns done in
     record {
       space = c.loop-i.invariant.0;
       strange = c.loop-i.invariant.1;

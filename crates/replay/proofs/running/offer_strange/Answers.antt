@@ -1,8 +1,8 @@
-use Rattle.std.proofs.Common.{◌≡◌, ◌-◌, ◌++◌, length, take, drop, sym, ap, ◌∙◌, subst, arith}
-use Rattle.std.proofs.lemmas.List.{length-take-le, take-append-drop}
+use Rattle.std.proofs.Common.{◌≡◌, ◌-◌, length, take, sym, ap, ◌∙◌, subst}
+use Rattle.std.proofs.lemmas.List.{length-take-le}
 use Rattle.archive.specs.Lent.{lending}
 use Rattle.archive.specs.Offering.{OfferRight}
-use Rattle.replay.proofs.Fronts.{from_nothing}
+use Rattle.replay.proofs.Fronts.{as_it_was, from_nothing, whole_kept_from_nothing}
 use Rattle.replay.proofs.Strange.{strange_untouched}
 use Rattle.replay.proofs.running.offer_strange.Goals as goal
 
@@ -18,12 +18,11 @@ returns g c =
     let long = ap length first ∙ length-take-le lent strange c.requires.1.0 in
     let same = strange_untouched M c.args.trial (lending c.args.archive.now (take (lent - 0) strange) (take room list)) (lending c.offer_over.new.archive part (take room c.offer_over.new.list)) c.offer_over.result c.offer_over.ensures.right (λ e. c.requires.1.1 (sym long ∙ e)) in
     let kept : part ≡ take lent strange = same.1 ∙ first in
-    let size : lent - 0 ≡ lent = omega arith in
     record {
       space = c.offer_over.ensures.space;
       right = subst (λ xs. OfferRight M c.args.trial (lending c.args.archive.now xs (take room list)) c.offer_over.result (lending c.offer_over.new.archive (take lent strange) (take room list))) first
           (subst (λ xs. OfferRight M c.args.trial (lending c.args.archive.now (take (lent - 0) strange) (take room list)) c.offer_over.result (lending c.offer_over.new.archive xs (take room list))) kept
           (subst (λ ys. OfferRight M c.args.trial (lending c.args.archive.now (take (lent - 0) strange) (take room list)) c.offer_over.result (lending c.offer_over.new.archive part ys)) same.2 c.offer_over.ensures.right));
-      strange = ap (λ xs. xs ++ drop (lent - 0) strange) kept ∙ (ap (λ k. take lent strange ++ drop k strange) size ∙ take-append-drop lent strange);
-      list = c.offer_over.ensures.rest ∙ (ap (λ xs. xs ++ drop room list) same.2 ∙ take-append-drop room list);
+      strange = whole_kept_from_nothing strange part lent kept;
+      list = as_it_was list (take room c.offer_over.new.list) room c.offer_over.new.list c.offer_over.ensures.rest same.2;
     }
