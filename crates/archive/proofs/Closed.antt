@@ -9,20 +9,20 @@ use Rattle.std.proofs.lemmas.Bool.{cases_lt, cond-true, cond-false, not_from_tru
 use Rattle.space.specs.declared.tagged.Trial.{Trial}
 use Rattle.archive.specs.Offering.{Closed}
 
--- of the first i of xs, n went, and their tags are in front of the list
+-- of the first i of xs, n went, and their tags are in front of the list, if it has room for them
 pub record Noting {P : Type 0} (goes : Trial P → Bool) (xs : List (Trial P)) (list list' : List ℕ) (n i : ℕ) : Type 0 where
-  pub tags : take n list' ≡ map (λ r. r.tag) (filter goes (take i xs))
+  pub tags : n ≤ length list → take n list' ≡ map (λ r. r.tag) (filter goes (take i xs))
   pub rest : drop n list' ≡ drop n list
   pub long : length list' ≡ length list
 
 module _ {P : Type 0} {goes : Trial P → Bool} {xs : List (Trial P)} {list list' : List ℕ} {n i : ℕ} {x : Trial P} (N : Noting goes xs list list' n i) (inside : i < length xs) (read : x ≡ get_or xs i x) where
   -- this row goes
-  noting_more : n < length list' → goes x ≡ true → Noting goes xs list (set list' n x.tag) (n + 1) (i + 1)
-  noting_more room e = record {
-    tags =
+  noting_more : goes x ≡ true → Noting goes xs list (set list' n x.tag) (n + 1) (i + 1)
+  noting_more e = record {
+    tags = λ room.
         let more = filter_more goes xs i x inside in
         let this : cond (goes (get_or xs i x)) (get_or xs i x ∷ []) [] ≡ x ∷ [] = ap (λ y. cond (goes y) (y ∷ []) []) (sym read) ∙ cond-true (goes x) (x ∷ []) [] e in
-        take_more_set list' n x.tag room ∙ ap (λ l. l ++ (x.tag ∷ [])) N.tags
+        take_more_set list' n x.tag (omega (arith, N.long)) ∙ ap (λ l. l ++ (x.tag ∷ [])) (N.tags (omega arith))
         ∙ sym (map_push (λ r. r.tag) (filter goes (take i xs)) x)
         ∙ ap (map (λ r. r.tag)) (sym (more ∙ ap (λ l. filter goes (take i xs) ++ l) this));
     rest = drop-set-lt (n + 1) list' n x.tag (omega arith) ∙ sym (drop-drop 1 n list') ∙ ap (drop 1) N.rest ∙ drop-drop 1 n list;
@@ -32,10 +32,10 @@ module _ {P : Type 0} {goes : Trial P → Bool} {xs : List (Trial P)} {list list
   -- this row stays
   noting_more_no : goes x ≡ false → Noting goes xs list list' n (i + 1)
   noting_more_no e = record {
-    tags =
+    tags = λ room.
         let more = filter_more goes xs i x inside in
         let this : cond (goes (get_or xs i x)) (get_or xs i x ∷ []) [] ≡ [] = ap (λ y. cond (goes y) (y ∷ []) []) (sym read) ∙ cond-false (goes x) (x ∷ []) [] e in
-        N.tags ∙ ap (map (λ r. r.tag)) (sym (more ∙ ap (λ l. filter goes (take i xs) ++ l) this ∙ append-nil (filter goes (take i xs))));
+        N.tags room ∙ ap (map (λ r. r.tag)) (sym (more ∙ ap (λ l. filter goes (take i xs) ++ l) this ∙ append-nil (filter goes (take i xs))));
     rest = N.rest;
     long = N.long;
   }
@@ -54,12 +54,12 @@ pub record ClosingUp {P : Type 0} (goes : Trial P → Bool) (xs ys : List (Trial
 module _ {P : Type 0} {goes : Trial P → Bool} {xs ys : List (Trial P)} {list list' : List ℕ} {stay went i : ℕ} where
   module _ (C : ClosingUp goes xs ys list list' stay went i) (x : Trial P) (ys' : List (Trial P)) (list'' : List ℕ) (stay' went' : ℕ) (inside : i < length ys) (read : x ≡ get_or ys i x) where
     -- the row at hand goes, and its tag is noted
-    pub closing_up_goes : went < length list' → goes x ≡ true → ys' ≡ ys → list'' ≡ set list' went x.tag → stay' ≡ stay → went' ≡ went + 1 → ClosingUp goes xs ys' list list'' stay' went' (i + 1)
-    closing_up_goes room e ey el es ew =
+    pub closing_up_goes : goes x ≡ true → ys' ≡ ys → list'' ≡ set list' went x.tag → stay' ≡ stay → went' ≡ went + 1 → ClosingUp goes xs ys' list list'' stay' went' (i + 1)
+    closing_up_goes e ey el es ew =
         rw (ey, el, es, ew)
         record {
           keeping = FiltersInPlace-more_no {x = x} C.keeping inside (not_from_true (goes x) e) read;
-          noting = noting_more C.noting (omega (arith, C.keeping.long)) (read_ahead C.keeping read) room e;
+          noting = noting_more C.noting (omega (arith, C.keeping.long)) (read_ahead C.keeping read) e;
           each = omega (arith, C.each);
         }
 
@@ -81,14 +81,14 @@ module _ {P : Type 0} {goes : Trial P → Bool} {xs ys : List (Trial P)} {list l
       record {
         fewer = omega (arith, C.each);
         stay = K.front ∙ ap (λ n. filter (λ r. not (goes r)) (take n xs)) e;
-        tags = ap (λ n. take n list') (sym d) ∙ N.tags ∙ ap (λ n. map (λ r. r.tag) (filter goes (take n xs))) e;
+        tags = λ room. ap (λ n. take n list') (sym d) ∙ N.tags (omega arith) ∙ ap (λ n. map (λ r. r.tag) (filter goes (take n xs))) e;
         rest = ap (λ n. drop n list') (sym d) ∙ N.rest ∙ ap (λ n. drop n list) d;
       }
 
 pub closing_up_none : {P : Type 0} (goes : Trial P → Bool) (xs : List (Trial P)) (list : List ℕ) → ClosingUp goes xs xs list list 0 0 0
 closing_up_none goes xs list = record {
   keeping = record { front = refl; rest = refl; behind = omega arith; within = omega arith; long = refl };
-  noting = record { tags = refl; rest = refl; long = refl };
+  noting = record { tags = λ _. refl; rest = refl; long = refl };
   each = refl;
 }
 

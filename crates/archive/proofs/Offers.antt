@@ -1,5 +1,5 @@
 -- What holds of an offer, by the checks and by the step.
-use Rattle.std.proofs.Common.{◌≡◌, ℕ, ◌<◌, ◌≤◌, true, false, cond, not, eqb, ltb, List, [], ◌∷◌, length, take, Ok, Err, Result, sym, refl, ap, ◌∙◌, subst}
+use Rattle.std.proofs.Common.{◌≡◌, ℕ, ◌<◌, ◌≤◌, true, false, cond, not, eqb, ltb, List, [], ◌∷◌, length, take, Ok, Err, Result, sym, refl, ap, ◌∙◌, subst, length-take, arith}
 use Rattle.std.proofs.lemmas.Bool.{cond-true, cond-false, ne_eqb, eq-eqb, lt-ltb, le-ltb, not_from_true, not_from_false}
 use Rattle.space.specs.Meaning.{Meaning, Lawful}
 use Rattle.space.specs.declared.tagged.Trial.{Trial}
@@ -15,7 +15,7 @@ use Rattle.history.proofs.Kept.{call_keeps, idle_call_keeps}
 use Rattle.archive.specs.declared.offering.Stepped.{Stepped}
 use Rattle.archive.specs.Lent.{Lent, members}
 use Rattle.archive.specs.Offering.{offer_of, to_judge, gone_of, TagsInFront, StepRight, OfferRight}
-use Rattle.archive.proofs.Stepped.{no_tags}
+use Rattle.archive.proofs.Stepped.{few_go, no_tags}
 
 module _ {P : Type 0} (M : Meaning P) (t : Trial P) (a : Lent P) where
   -- what the checks come to
@@ -74,18 +74,19 @@ module _ {P : Type 0} (M : Meaning P) (t : Trial P) (a : Lent P) where
         }
 
     -- the checks pass: the step decides
-    pub judged_right : (r : Stepped) (held' : List (Trial P)) (list' : List ℕ) → length a.held ≡ a.rows → to_judge M a t ≡ Ok t → StepRight (judge M (length a.held) (members a) t) a.count a.held a.list r held' list' → OfferRight M t a r.answer (record { rows = a.rows; count = r.count; held = held'; list = list' })
+    pub judged_right : (r : Stepped) (held' : List (Trial P)) (list' : List ℕ) → length a.held ≡ a.rows → a.rows ≤ length a.list → to_judge M a t ≡ Ok t → StepRight (judge M (length a.held) (members a) t) a.count a.held a.list r held' list' → OfferRight M t a r.answer (record { rows = a.rows; count = r.count; held = held'; list = list' })
     unfolding members_after
-    judged_right r held' list' own e stepped =
+    judged_right r held' list' own long e stepped =
         let S = subst (λ n. StepRight (judge M n (members a) t) a.count a.held a.list r held' list') own stepped in
         let value : r.answer ≡ answer_by (members a) (to_judge M a t) = S.value ∙ ap (answer_by (members a)) (sym e) in
+        let room : length (gone_of (judge M a.rows (members a) t)) ≤ length a.list = omega (arith, few_go M t a.rows (members a), length-take a.count a.held) in
         let called = ap (λ k. members_after M a.rows (members a) (brought_by k)) (sym e) in
         record {
           value = value;
           same_rows = refl;
           counted = S.counted ∙ ap count_by (sym e);
           in_order = S.in_order ∙ ap members_by (sym e);
-          tags = subst (λ k. TagsInFront (gone_by k) a.list list') (sym e) S.tags;
+          tags = subst (λ k. TagsInFront (gone_by k) a.list list') (sym e) (S.tags room);
           untouched = S.untouched;
           stays = λ reads h stood.
               call_keeps M L reads h a.rows a.count a.held stood (record { call = offer_of a t; answer = told answer.Offered r.answer })

@@ -2,8 +2,9 @@
 use Rattle.std.proofs.Common.{◌≡◌, ℕ, suc, ◌+◌, ◌-◌, ◌<◌, ◌≤◌, Bool, true, false, cond, not, ◌||◌, ltb, List, [], ◌∷◌, ◌++◌, map, length, get_or, take, drop, set, Ok, Err, filter, sym, refl, ap, ◌∙◌, subst, arith}
 use Rattle.std.specs.List.{remove}
 use Rattle.std.specs.List.Sorted.{IsPermutation}
-use Rattle.std.proofs.lemmas.List.{length-take-le, length-map, length_push, length-set, take_more_set, get_or-take, drop_more, drop-set-lt}
+use Rattle.std.proofs.lemmas.List.{length-take-le, length_push, length-set, take_more_set, get_or-take, drop_more, drop-set-lt}
 use Rattle.std.proofs.lemmas.List.Edits.{length-remove}
+use Rattle.std.proofs.lemmas.List.Filters.{length-filter_both}
 use Rattle.std.proofs.lemmas.List.Sorted.{IsPermutation-refl}
 use Rattle.std.proofs.lemmas.Bool.{false≢true, cond-true, cond-false, lt-ltb, le-ltb}
 use Rattle.space.specs.Meaning.{Meaning}
@@ -12,13 +13,13 @@ use Rattle.history.specs.declared.denials.Denial.TheVariants.{Full}
 use Rattle.history.specs.declared.verdicts.Verdict.TheVariants.{PassedOver, Entered, Displaced, Replaced}
 use Rattle.history.specs.Lists.{any, first_of, without_first}
 use Rattle.history.specs.Step.{below, beaten, displacing, replacing, entering, judge}
-use Rattle.history.specs.Step.Outcome.{judged}
+use Rattle.history.specs.Step.Outcome.{judged, full}
 use Rattle.history.proofs.Membership.{some_kept}
 use Rattle.archive.specs.declared.deciding.Decision.{Decision}
-use Rattle.archive.specs.declared.deciding.Decision.TheVariants.{Replace}
+use Rattle.archive.specs.declared.deciding.Decision.TheVariants.{Displace, Replace, PassOver, Enter}
 use Rattle.archive.specs.Deciding.{first_place, decision}
 use Rattle.archive.specs.declared.offering.Stepped.{Stepped}
-use Rattle.archive.specs.Offering.{TagsInFront, Closed, StepRight, replacing_row}
+use Rattle.archive.specs.Offering.{TagsInFront, Closed, gone_of, StepRight, replacing_row}
 use Rattle.archive.proofs.Decided.{first_beaten_from, outcome_by, judge_decided}
 
 -- tags in the order of the rows are tags in any order
@@ -32,33 +33,38 @@ tags_in_row_order gone list list' n long tags rest = record {
 pub no_tags : {P : Type 0} (list : List ℕ) → TagsInFront {P = P} [] list list
 no_tags {P} list = tags_in_row_order {P = P} [] list list 0 refl refl refl
 
-module _ {P : Type 0} (goes : Trial P → Bool) (count n : ℕ) (held held₁ : List (Trial P)) (list list' : List ℕ) (rows_long : count ≤ length held) (list_long : count ≤ length list) (same : length list' ≡ length list) (C : Closed goes count held list n held₁ list') where
+module _ {P : Type 0} (goes : Trial P → Bool) (count n : ℕ) (held held₁ : List (Trial P)) (list list' : List ℕ) (rows_long : count ≤ length held) (same_rows : length held₁ ≡ length held) (C : Closed goes count held list n held₁ list') where
   how_many_went : count - n ≡ length (filter goes (take count held))
-  how_many_went = sym (length-take-le (count - n) list' (omega arith)) ∙ ap length C.tags ∙ length-map (filter goes (take count held)) (λ r. r.tag)
+  how_many_went =
+      let members = take count held in
+      let all = length-take-le count held rows_long in
+      let both = length-filter_both goes (λ r. not (goes r)) (λ r. refl) members in
+      let stay : n ≡ length (filter (λ r. not (goes r)) members) = sym (length-take-le n held₁ (omega (arith, C.fewer))) ∙ ap length C.stay in
+      omega arith
 
   -- where some go, a row comes free
   pub row_free : any goes (take count held) ≡ true → n < count
   row_free some = let one = some_kept goes (take count held) some in omega (arith, how_many_went)
 
-module _ {P : Type 0} (M : Meaning P) (t : Trial P) (count n : ℕ) (held held₁ : List (Trial P)) (list list' : List ℕ) (rows_long : count ≤ length held) (list_long : count ≤ length list) (same_rows : length held₁ ≡ length held) (same : length list' ≡ length list) (some : any (below M t) (take count held) ≡ true) (C : Closed (below M t) count held list n held₁ list') where
+module _ {P : Type 0} (M : Meaning P) (t : Trial P) (count n : ℕ) (held held₁ : List (Trial P)) (list list' : List ℕ) (rows_long : count ≤ length held) (same_rows : length held₁ ≡ length held) (some : any (below M t) (take count held) ≡ true) (C : Closed (below M t) count held list n held₁ list') where
   pub displaced_right : StepRight (displacing M (take count held) t) count held list (record { answer = Ok (record { verdict = Displaced; displaced = count - n }); count = n + 1 }) (set held₁ n t) list'
   displaced_right =
-      let went = how_many_went (below M t) count n held held₁ list list' rows_long list_long same C in
-      let free = row_free (below M t) count n held held₁ list list' rows_long list_long same C some in
+      let went = how_many_went (below M t) count n held held₁ list list' rows_long same_rows C in
+      let free = row_free (below M t) count n held held₁ list list' rows_long same_rows C some in
       let kept = filter (λ r. not (below M t r)) (take count held) in
       let stay : n ≡ length kept = sym (length-take-le n held₁ (omega arith)) ∙ ap length C.stay in
       record {
         value = ap (λ k. Ok (record { verdict = Displaced; displaced = k })) went;
         counted = ap (λ k. k + 1) stay ∙ sym (length_push kept t);
         in_order = take_more_set held₁ n t (omega arith) ∙ ap (λ l. l ++ (t ∷ [])) C.stay;
-        tags = tags_in_row_order (filter (below M t) (take count held)) list list' (count - n) went C.tags C.rest;
+        tags = λ room. tags_in_row_order (filter (below M t) (take count held)) list list' (count - n) went (C.tags (omega (arith, went))) C.rest;
         untouched = λ e. absurd (false≢true e);
         fits = omega arith;
         long = length-set held₁ n t ∙ same_rows;
       }
 
-module _ {P : Type 0} (t x : Trial P) (row count : ℕ) (held held₁ : List (Trial P)) (list : List ℕ) (inside : row < count) (rows_long : count ≤ length held) (list_long : count ≤ length list) (same_rows : length held₁ ≡ length held) (closed : take (count - 1) held₁ ≡ remove (take count held) row) where
-  pub replaced_right : StepRight (replacing_row (take count held) row t) count held list (record { answer = Ok (record { verdict = Replaced; displaced = 1 }); count = count }) (set held₁ (count - 1) t) (set list 0 (get_or held row x).tag)
+module _ {P : Type 0} (t x : Trial P) (row count : ℕ) (held held₁ : List (Trial P)) (list list' : List ℕ) (noted : list' ≡ set list 0 (get_or held row x).tag) (inside : row < count) (rows_long : count ≤ length held) (same_rows : length held₁ ≡ length held) (closed : take (count - 1) held₁ ≡ remove (take count held) row) where
+  pub replaced_right : StepRight (replacing_row (take count held) row t) count held list (record { answer = Ok (record { verdict = Replaced; displaced = 1 }); count = count }) (set held₁ (count - 1) t) list'
   replaced_right =
       let members = take count held in
       let all = length-take-le count held rows_long in
@@ -67,17 +73,17 @@ module _ {P : Type 0} (t x : Trial P) (row count : ℕ) (held held₁ : List (Tr
       let one : 1 ≡ length (take 1 (drop row members)) = sym (ap length this) in
       let left = length-remove members row (omega arith) in
       let whole : count - 1 + 1 ≡ count = omega arith in
-      let tag : take 1 (set list 0 y.tag) ≡ y.tag ∷ [] = take_more_set list 0 y.tag (omega arith) in
+      let tag : 1 ≤ length list → take 1 list' ≡ y.tag ∷ [] = λ room. ap (take 1) noted ∙ take_more_set list 0 y.tag (omega arith) in
       record {
         value = ap (λ k. Ok (record { verdict = Replaced; displaced = k })) one;
         counted = (let e = length_push (remove members row) t in omega (arith, e, left, all));
         in_order =
             ap (λ k. take k (set held₁ (count - 1) t)) (sym whole) ∙ take_more_set held₁ (count - 1) t (omega arith)
             ∙ ap (λ l. l ++ (t ∷ [])) closed;
-        tags =
-            tags_in_row_order (take 1 (drop row members)) list (set list 0 y.tag) 1 one
-            (tag ∙ ap (map (λ r. r.tag)) (sym this))
-            (drop-set-lt 1 list 0 y.tag (omega arith));
+        tags = λ room.
+            tags_in_row_order (take 1 (drop row members)) list list' 1 one
+            (tag (omega (arith, one)) ∙ ap (map (λ r. r.tag)) (sym this))
+            (ap (drop 1) noted ∙ drop-set-lt 1 list 0 y.tag (omega arith));
         untouched = λ e. absurd (false≢true e);
         fits = rows_long;
         long = length-set held₁ (count - 1) t ∙ same_rows;
@@ -95,7 +101,7 @@ module _ {P : Type 0} (t : Trial P) (count : ℕ) (held : List (Trial P)) (list 
         value = refl;
         counted = sym (length_push (take count held) t ∙ ap (λ k. k + 1) all_there);
         in_order = take_more_set held count t (omega arith);
-        tags = no_tags list;
+        tags = λ _. no_tags list;
         untouched = λ e. absurd (false≢true e);
         fits = omega arith;
         long = length-set held count t;
@@ -108,7 +114,7 @@ module _ {P : Type 0} (t : Trial P) (count : ℕ) (held : List (Trial P)) (list 
         value = refl;
         counted = sym all_there;
         in_order = refl;
-        tags = no_tags list;
+        tags = λ _. no_tags list;
         untouched = λ e. (refl, refl, refl);
         fits = rows_long;
         long = refl;
@@ -119,7 +125,7 @@ module _ {P : Type 0} (t : Trial P) (count : ℕ) (held : List (Trial P)) (list 
     value = refl;
     counted = sym all_there;
     in_order = refl;
-    tags = no_tags list;
+    tags = λ _. no_tags list;
     untouched = λ e. absurd (false≢true e);
     fits = rows_long;
     long = refl;
@@ -151,6 +157,21 @@ module _ {A : Type 0} (f : A → Bool) where
 
   pub at_place : (xs : List A) (n : ℕ) → any f xs ≡ true → n ≡ first_place f 0 xs → OutAt xs n (first_of f xs) (without_first f xs)
   at_place xs n e h = at_first 0 xs n e (omega arith)
+
+-- no more members go than there are
+module _ {P : Type 0} (M : Meaning P) (t : Trial P) where
+  first_few : (f : Trial P → Bool) (xs : List (Trial P)) → length (first_of f xs) ≤ length xs
+  first_few f [] = omega arith
+  first_few f (x ∷ xs) = let rest = first_few f xs in elim (f x) as (λ b. length (cond b (x ∷ []) (first_of f xs)) ≤ suc (length xs)) [ true ↦ omega arith | false ↦ omega arith ]
+
+  few_decided : (rows : ℕ) (xs : List (Trial P)) (d : Decision) → length (gone_of (outcome_by M t rows xs d)) ≤ length xs
+  few_decided rows xs Displace = omega (arith, length-filter_both (below M t) (λ r. not (below M t r)) (λ r. refl) xs)
+  few_decided rows xs (Replace n) = first_few (beaten M t) xs
+  few_decided rows xs PassOver = omega arith
+  few_decided rows xs Enter = elim (ltb (length xs) rows) as (λ b. length (gone_of (cond b (judged Entered [] (xs ++ (t ∷ []))) full)) ≤ length xs) [ true ↦ omega arith | false ↦ omega arith ]
+
+  pub few_go : (rows : ℕ) (xs : List (Trial P)) → length (gone_of (judge M rows xs t)) ≤ length xs
+  few_go rows xs = subst (λ o. length (gone_of o) ≤ length xs) (sym (judge_decided M t rows xs)) (few_decided rows xs (decision M xs t))
 
 -- the first beaten member goes by its row
 pub replacing_by_row : {P : Type 0} (M : Meaning P) (t : Trial P) (xs : List (Trial P)) (n : ℕ) → any (beaten M t) xs ≡ true → n ≡ first_place (beaten M t) 0 xs → replacing M xs t ≡ replacing_row xs n t

@@ -47,11 +47,11 @@ pub record TagsInFront {P : Type 0} (gone : List (Trial P)) (before after : List
   pub rest : drop (length gone) after ≡ drop (length gone) before
 
 -- of the first rows, n stay and stand in front, in their order; the tags of those that go are in front of the list, in row order,
--- and the rest of the list is as it was
+-- if it has room for them, and the rest of the list is as it was
 pub record Closed {P : Type 0} (goes : Trial P → Bool) (count : ℕ) (held : List (Trial P)) (list : List ℕ) (n : ℕ) (held' : List (Trial P)) (list' : List ℕ) : Type 0 where
   pub fewer : n ≤ count
   pub stay : take n held' ≡ filter (λ r. not (goes r)) (take count held)
-  pub tags : take (count - n) list' ≡ map (λ r. r.tag) (filter goes (take count held))
+  pub tags : count - n ≤ length list → take (count - n) list' ≡ map (λ r. r.tag) (filter goes (take count held))
   pub rest : drop (count - n) list' ≡ drop (count - n) list
 
 -- the member in one row goes, and the trial enters after the others
@@ -59,12 +59,12 @@ abbrev pub replacing_row : {P : Type 0} → List (Trial P) → ℕ → Trial P �
 replacing_row members row t = judged Replaced (take 1 (drop row members)) (remove members row ++ (t ∷ []))
 
 -- the rows and the list once a trial had this outcome: the answer and the new count are told, the members are in front, and the
--- tags of those that went are in front of the list
+-- tags of those that went are in front of the list, if it has room for them
 pub record StepRight {P : Type 0} (outcome : Outcome P) (count : ℕ) (held : List (Trial P)) (list : List ℕ) (r : Stepped) (held' : List (Trial P)) (list' : List ℕ) : Type 0 where
   pub value : r.answer ≡ verdict_of outcome
   pub counted : r.count ≡ length (members_then (take count held) outcome)
   pub in_order : take r.count held' ≡ members_then (take count held) outcome
-  pub tags : TagsInFront (gone_of outcome) list list'
+  pub tags : length (gone_of outcome) ≤ length list → TagsInFront (gone_of outcome) list list'
   -- a trial that finds no row alters nothing
   pub untouched : is_err r.answer ≡ true → (r.count ≡ count) × (held' ≡ held) × (list' ≡ list)
   -- there are enough rows, as many as before

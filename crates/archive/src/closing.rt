@@ -19,8 +19,17 @@ fn copy_row<P: Copy>(rows: &mut [Trial<P>], from: usize, to: usize) -> Trial<P>
     row
 }
 
+// Writes a tag to the list, if the list has a place for it.
+pub(crate) fn note(list: &mut [u32], at: usize, tag: u32)
+    ensures { list.new ≡ slice_set list.old at tag }
+{
+    if at < list.len() {
+        list[at] = tag;
+    }
+}
+
 // Of the first rows, those close up that stay, in their order: all whose box the trial's box does not dominate. The tags of
-// the others are written to the front of the list. Answers how many stay.
+// the others are written to the front of the list, as far as it reaches. Answers how many stay.
 pub(crate) fn close_up<S: Space>(
     space: &S,
     trial: &Trial<S::Point>,
@@ -30,14 +39,14 @@ pub(crate) fn close_up<S: Space>(
     gone: &mut [u32],
 ) -> usize
     requires known { boxes.now ≡ six_boxes (S.Space.meaning space.now) trial.now.point }
-    requires long { (count ≤ length rows.old) × (count ≤ length gone.old) }
+    requires long { count ≤ length rows.old }
     ensures { Closed (below (S.Space.meaning space.now) trial.now) count rows.old gone.old result rows.new gone.new }
 {
     let mut stay = 0;
     let mut went = 0;
     for i in 0..count {
         if let Class::Below = classify(space, trial, boxes, &rows[i]) {
-            gone[went] = rows[i].tag;
+            note(gone, went, rows[i].tag);
             went += 1;
         } else {
             copy_row(rows, i, stay);

@@ -7,7 +7,7 @@ ghost use Rattle.archive.specs.Lent.{lending};
 ghost use Rattle.archive.specs.Offering.{OfferRight, StepRight, replacing_row};
 
 use crate::boxing::six_boxes;
-use crate::closing::{close_up, take_out};
+use crate::closing::{close_up, note, take_out};
 use crate::deciding::{Decision, decide};
 use crate::holding::Archive;
 use history::{Denial, Offered, Verdict};
@@ -30,7 +30,7 @@ fn displace<S: Space>(
     displaced: &mut [u32],
 ) -> Stepped
     requires known { boxes.now ≡ six_boxes (S.Space.meaning space.now) trial.now.point }
-    requires long { (count ≤ length rows.old) × (count ≤ length displaced.old) }
+    requires long { count ≤ length rows.old }
     requires some { any (below (S.Space.meaning space.now) trial.now) (take count rows.old) ≡ true }
     ensures { StepRight (displacing (S.Space.meaning space.now) (take count rows.old) trial.now) count rows.old displaced.old result rows.new displaced.new }
 {
@@ -53,10 +53,10 @@ fn replace<P: Copy>(
     rows: &mut [Trial<P>],
     displaced: &mut [u32],
 ) -> Stepped
-    requires { (row < count) × ((count ≤ length rows.old) × (count ≤ length displaced.old)) }
+    requires { (row < count) × (count ≤ length rows.old) }
     ensures { StepRight (replacing_row (take count rows.old) row trial) count rows.old displaced.old result rows.new displaced.new }
 {
-    displaced[0] = rows[row].tag;
+    note(displaced, 0, rows[row].tag);
     take_out(rows, row, count);
     rows[count - 1] = trial;
     Stepped {
@@ -97,7 +97,7 @@ fn step<S: Space>(
     rows: &mut [Trial<S::Point>],
     displaced: &mut [u32],
 ) -> Stepped
-    requires { (count ≤ length rows.old) × (count ≤ length displaced.old) }
+    requires { count ≤ length rows.old }
     ensures { StepRight (judge (S.Space.meaning space.now) (length rows.old) (take count rows.old) trial) count rows.old displaced.old result rows.new displaced.new }
 {
     let boxes = six_boxes(space, &trial.point);

@@ -16,15 +16,14 @@ loop-i-preserved g c =
     let rows = c.loop-i.rows in
     let d = c.index-rows-i.result in
     let x = get_or rows i d in
-    let inside : i < length rows = omega (arith, c.loop-i.auto.rows, c.loop-i-test.true, c.requires.long.0) in
+    let inside : i < length rows = omega (arith, c.loop-i.auto.rows, c.loop-i-test.true, c.requires.long) in
     let read = get_or_default rows i d x inside in
     elim c.match-classify.branch [
       | in-Below w ↦
           closing_up_goes c.loop-i.invariant x c.match-classify.rows c.match-classify.gone c.match-classify.stay c.match-classify.went inside read
-          (omega (arith, c.loop-i.invariant.each, c.loop-i.auto.gone, c.loop-i-test.true, c.requires.long.1))
           (below_from M t x (sym c.classify.ensures ∙ w.in-Below.is))
           w.rows-is
-          (w.gone-is ∙ ap (λ y. set c.loop-i.gone c.loop-i.went y.tag) (get_or_default rows i w.index-rows-i-in-Below.result d inside))
+          (w.gone-is ∙ w.note.ensures ∙ ap (λ y. set c.loop-i.gone c.loop-i.went y.tag) (get_or_default rows i w.index-rows-i-in-Below.result d inside))
           w.stay-is
           w.went-is
       | in_default w ↦

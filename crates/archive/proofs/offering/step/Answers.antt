@@ -5,7 +5,7 @@ use Rattle.archive.proofs.offering.step.Goals as goal
 
 pub replace-requires : goal.replace-requires
 replace-requires g c = (
-  row_inside (g.S.Space.meaning c.args.space.now) c.args.trial c.args.count c.args.rows.now c.in-Replace.row c.requires.0 (sym c.decide.ensures ∙ c.in-Replace.is),
+  row_inside (g.S.Space.meaning c.args.space.now) c.args.trial c.args.count c.args.rows.now c.in-Replace.row c.requires (sym c.decide.ensures ∙ c.in-Replace.is),
   c.requires,
 )
 
@@ -28,7 +28,7 @@ returns-in-PassOver g c =
     decided_right (g.S.Space.meaning c.args.space.now) c.args.trial c.args.count c.args.rows.now c.args.displaced.now _ c.args.rows.now c.args.displaced.now
     PassOver
     (sym c.decide.ensures ∙ c.in-PassOver.is)
-    (passed_right c.args.trial c.args.count c.args.rows.now c.args.displaced.now c.requires.0)
+    (passed_right c.args.trial c.args.count c.args.rows.now c.args.displaced.now c.requires)
 
 pub returns-in-Enter : goal.returns-in-Enter
 returns-in-Enter g c =

@@ -46,5 +46,5 @@ returns g c =
     let passed = passes M t a c.if-rows-self.false c.if-displaced-self.false (sym c.admits.ensures ∙ c.if-not-admits.false) in
     record {
       space = refl;
-      right = judged_right M t a (g.met.S.Space.lawful self.space) c.step-stepped.result c.step-stepped.new.rows c.step-stepped.new.displaced c.if-rows-self.false passed c.step-stepped.ensures;
+      right = judged_right M t a (g.met.S.Space.lawful self.space) c.step-stepped.result c.step-stepped.new.rows c.step-stepped.new.displaced c.if-rows-self.false c.if-displaced-self.false passed c.step-stepped.ensures;
     }
