@@ -2,8 +2,10 @@ pub mod Boxed
 pub mod Closed
 pub mod Decided
 pub mod Extents
+pub mod Fed
 pub mod Idle
 pub mod Offers
 pub mod Pairing
 pub mod Stepped
 pub mod Tags
+pub mod Taking

@@ -79,7 +79,7 @@ module _ {P : Type 0} (M : Meaning P) (t : Trial P) (a : Lent P) where
     judged_right r held' list' own long e stepped =
         let S = subst (λ n. StepRight (judge M n (members a) t) a.count a.held a.list r held' list') own stepped in
         let value : r.answer ≡ answer_by (members a) (to_judge M a t) = S.value ∙ ap (answer_by (members a)) (sym e) in
-        let room : length (gone_of (judge M a.rows (members a) t)) ≤ length a.list = omega (arith, few_go M t a.rows (members a), length-take a.count a.held) in
+        let room : length (gone_of (judge M a.rows (members a) t)) ≤ length a.list = omega (arith, (few_go M t a.rows (members a)).0, length-take a.count a.held) in
         let called = ap (λ k. members_after M a.rows (members a) (brought_by k)) (sym e) in
         record {
           value = value;

@@ -12,9 +12,9 @@ use Rattle.space.specs.declared.tagged.Trial.{Trial}
 use Rattle.history.specs.declared.denials.Denial.TheVariants.{Full}
 use Rattle.history.specs.declared.verdicts.Verdict.TheVariants.{PassedOver, Entered, Displaced, Replaced}
 use Rattle.history.specs.Lists.{any, first_of, without_first}
-use Rattle.history.specs.Step.{below, beaten, displacing, replacing, entering, judge}
+use Rattle.history.specs.Step.{Outcome, below, beaten, displacing, replacing, entering, judge, members_then}
 use Rattle.history.specs.Step.Outcome.{judged, full}
-use Rattle.history.proofs.Membership.{some_kept}
+use Rattle.history.proofs.Membership.{some_kept, length_without}
 use Rattle.archive.specs.declared.deciding.Decision.{Decision}
 use Rattle.archive.specs.declared.deciding.Decision.TheVariants.{Displace, Replace, PassOver, Enter}
 use Rattle.archive.specs.Deciding.{first_place, decision}
@@ -158,20 +158,27 @@ module _ {A : Type 0} (f : A → Bool) where
   pub at_place : (xs : List A) (n : ℕ) → any f xs ≡ true → n ≡ first_place f 0 xs → OutAt xs n (first_of f xs) (without_first f xs)
   at_place xs n e h = at_first 0 xs n e (omega arith)
 
--- no more members go than there are
+-- no more members go than there are, and there is at most one member more than stayed
+abbrev pub FewGo : {P : Type 0} → List (Trial P) → Outcome P → Type 0
+FewGo xs o = (length (gone_of o) ≤ length xs) × (length (gone_of o) + length (members_then xs o) ≤ length xs + 1)
+
 module _ {P : Type 0} (M : Meaning P) (t : Trial P) where
-  first_few : (f : Trial P → Bool) (xs : List (Trial P)) → length (first_of f xs) ≤ length xs
-  first_few f [] = omega arith
-  first_few f (x ∷ xs) = let rest = first_few f xs in elim (f x) as (λ b. length (cond b (x ∷ []) (first_of f xs)) ≤ suc (length xs)) [ true ↦ omega arith | false ↦ omega arith ]
+  few_decided : (rows : ℕ) (xs : List (Trial P)) (d : Decision) → FewGo xs (outcome_by M t rows xs d)
+  few_decided rows xs Displace =
+      let both = length-filter_both (below M t) (λ r. not (below M t r)) (λ r. refl) xs in
+      let push = length_push (filter (λ r. not (below M t r)) xs) t in
+      (omega arith, omega arith)
+  few_decided rows xs (Replace n) =
+      let both = length_without (beaten M t) xs in
+      let push = length_push (without_first (beaten M t) xs) t in
+      (omega arith, omega arith)
+  few_decided rows xs PassOver = (omega arith, omega arith)
+  few_decided rows xs Enter =
+      let push = length_push xs t in
+      elim (ltb (length xs) rows) as (λ b. FewGo xs (cond b (judged Entered [] (xs ++ (t ∷ []))) full)) [ true ↦ (omega arith, omega arith) | false ↦ (omega arith, omega arith) ]
 
-  few_decided : (rows : ℕ) (xs : List (Trial P)) (d : Decision) → length (gone_of (outcome_by M t rows xs d)) ≤ length xs
-  few_decided rows xs Displace = omega (arith, length-filter_both (below M t) (λ r. not (below M t r)) (λ r. refl) xs)
-  few_decided rows xs (Replace n) = first_few (beaten M t) xs
-  few_decided rows xs PassOver = omega arith
-  few_decided rows xs Enter = elim (ltb (length xs) rows) as (λ b. length (gone_of (cond b (judged Entered [] (xs ++ (t ∷ []))) full)) ≤ length xs) [ true ↦ omega arith | false ↦ omega arith ]
-
-  pub few_go : (rows : ℕ) (xs : List (Trial P)) → length (gone_of (judge M rows xs t)) ≤ length xs
-  few_go rows xs = subst (λ o. length (gone_of o) ≤ length xs) (sym (judge_decided M t rows xs)) (few_decided rows xs (decision M xs t))
+  pub few_go : (rows : ℕ) (xs : List (Trial P)) → FewGo xs (judge M rows xs t)
+  few_go rows xs = subst (FewGo xs) (sym (judge_decided M t rows xs)) (few_decided rows xs (decision M xs t))
 
 -- the first beaten member goes by its row
 pub replacing_by_row : {P : Type 0} (M : Meaning P) (t : Trial P) (xs : List (Trial P)) (n : ℕ) → any (beaten M t) xs ≡ true → n ≡ first_place (beaten M t) 0 xs → replacing M xs t ≡ replacing_row xs n t

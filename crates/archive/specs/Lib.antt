@@ -4,3 +4,5 @@ pub mod Deciding
 pub mod Offering
 pub mod Auditing
 pub mod Listing
+pub mod Summing
+pub mod Feeding

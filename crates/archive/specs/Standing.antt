@@ -11,10 +11,17 @@ abbrev pub Begins : {P : Type 0} → Meaning P → ℕ → ℕ → List (Trial P
 Begins {P} M rows count held = (reads : List ℕ → P) → Stands M reads (begun rows) rows count held
 
 -- under whatever history the archive and its rows stood before this call, they stand after it under that history with the
--- call and its answer added; how bytes become points is left open
-abbrev pub Stays : {P : Type 0} → Meaning P → ℕ → Call P → Answer → ℕ → List (Trial P) → ℕ → List (Trial P) → Type 0
-Stays {P} M rows call answer count held count' held' = (reads : List ℕ → P) (h : History P) → Stands M reads h rows count held → Stands M reads (h ▸ record { call = call; answer = answer }) rows count' held'
+-- call and its answer added; bytes become points in this way
+abbrev pub StaysAs : {P : Type 0} → Meaning P → (List ℕ → P) → ℕ → Call P → Answer → ℕ → List (Trial P) → ℕ → List (Trial P) → Type 0
+StaysAs {P} M reads rows call answer count held count' held' = (h : History P) → Stands M reads h rows count held → Stands M reads (h ▸ record { call = call; answer = answer }) rows count' held'
 
 -- a call that was lent strange rows leaves the archive standing over its own, whatever they hold
+abbrev pub StaysApartAs : {P : Type 0} → Meaning P → (List ℕ → P) → ℕ → Call P → Answer → List (Trial P) → ℕ → ℕ → Type 0
+StaysApartAs {P} M reads rows call answer lent count count' = (length lent ≢ rows) → (held : List (Trial P)) → StaysAs M reads rows call answer count held count' held
+
+-- the same however bytes become points
+abbrev pub Stays : {P : Type 0} → Meaning P → ℕ → Call P → Answer → ℕ → List (Trial P) → ℕ → List (Trial P) → Type 0
+Stays {P} M rows call answer count held count' held' = (reads : List ℕ → P) → StaysAs M reads rows call answer count held count' held'
+
 abbrev pub StaysApart : {P : Type 0} → Meaning P → ℕ → Call P → Answer → List (Trial P) → ℕ → ℕ → Type 0
 StaysApart {P} M rows call answer lent count count' = (length lent ≢ rows) → (held : List (Trial P)) → Stays M rows call answer count held count' held

@@ -8,6 +8,7 @@ pub struct Archive<S> {
     pub(crate) rows: usize,
     pub(crate) count: usize,
     ghost within: { count ≤ rows },
+    ghost few: { rows ≤ 4096 },
 }
 
 impl<S> Archive<S> {

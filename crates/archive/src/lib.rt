@@ -7,11 +7,13 @@ mod auditing;
 mod boxing;
 mod closing;
 mod deciding;
+mod feeding;
 mod holding;
 mod listing;
 mod making;
 mod needing;
 mod offering;
+mod summing;
 
 pub use holding::Archive;
 pub use making::Refused;

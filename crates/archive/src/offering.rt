@@ -90,7 +90,7 @@ fn enter<P: Copy>(trial: Trial<P>, count: usize, rows: &mut [Trial<P>]) -> Stepp
 }
 
 // The first of the four steps that applies, for a trial on the grid.
-fn step<S: Space>(
+pub(crate) fn step<S: Space>(
     space: &S,
     trial: Trial<S::Point>,
     count: usize,

@@ -1,0 +1,226 @@
+-- The trials of a block, tried one after the other.
+use Rattle.std.proofs.Common.{◌≡◌, ℕ, suc, ◌+◌, ◌-◌, ◌^◌, ◌<◌, ◌≤◌, true, false, cond, List, [], ◌∷◌, ◌++◌, map, length, take, Some, None, Err, filter, sym, refl, ap, ◌∙◌, subst, add-zero, zero-add, add-one, add_assoc, length-take, arith}
+use Rattle.std.specs.Option.{option_or}
+use Rattle.space.specs.Meaning.{Meaning}
+use Rattle.space.specs.declared.tagged.Trial.{Trial}
+use Rattle.log_block.specs.Items.{Item, ItemAt, trial, note}
+use Rattle.history.specs.declared.answers.Fed.{Fed}
+use Rattle.history.specs.declared.denials.Denial.TheVariants as denial
+use Rattle.history.specs.declared.faults.DeniedTrial.TheVariants.{OffGrid}
+use Rattle.history.specs.declared.verdicts.Verdict.TheVariants.{PassedOver, Entered, Displaced, Replaced}
+use Rattle.history.specs.Answers.{verdict_of}
+use Rattle.history.specs.BlockTrials.{TrialAt, trials_of}
+use Rattle.history.specs.Feeding.{all_entered, then_denied, then_judged, tally}
+use Rattle.history.specs.State.{entries, members_after, on_grid}
+use Rattle.history.specs.Step.{Outcome, judge, members_then}
+use Rattle.history.specs.Step.Outcome.{judged, full}
+use Rattle.archive.specs.declared.feeding.Taken.{Taken}
+use Rattle.archive.specs.declared.offering.Stepped.{Stepped}
+use Rattle.archive.specs.Feeding.{TriedRight, TakenRight, members_taken, members_tried, trial_answer}
+use Rattle.archive.specs.Offering.{gone_of}
+use Rattle.archive.specs.Summing.{capped, capped_fed, one_fed, sum_fed}
+use Rattle.archive.proofs.Stepped.{few_go}
+
+-- two sums with the same parts
+fed_same : (a b c d a' b' c' d' : ℕ) (f f' : _) → a ≡ a' → b ≡ b' → c ≡ c' → d ≡ d' → f ≡ f' → ◌≡◌ {A = Fed} (record { entered = a; passed = b; denied = c; displaced = d; first = f }) (record { entered = a'; passed = b'; denied = c'; displaced = d'; first = f' })
+fed_same a b c d a' b' c' d' f f' ea eb ec ed ef = cc
+
+or_assoc : {A : Type 0} (a b c : _) → option_or {T = A} (option_or a b) c ≡ option_or a (option_or b c)
+or_assoc None b c = refl
+or_assoc (Some x) b c = refl
+
+or_none : {A : Type 0} (a : _) → option_or {T = A} a None ≡ a
+or_none None = refl
+or_none (Some x) = refl
+
+pub sum_assoc : (f g h : Fed) → sum_fed (sum_fed f g) h ≡ sum_fed f (sum_fed g h)
+sum_assoc f g h =
+    fed_same _ _ _ _ _ _ _ _ _ _ (add_assoc f.entered g.entered h.entered) (add_assoc f.passed g.passed h.passed) (add_assoc f.denied g.denied h.denied) (add_assoc f.displaced g.displaced h.displaced) (or_assoc f.first g.first h.first)
+
+pub none_sum : (f : Fed) → sum_fed (all_entered 0) f ≡ f
+none_sum f = fed_same _ _ _ _ _ _ _ _ _ _ (zero-add f.entered) (zero-add f.passed) (zero-add f.denied) (zero-add f.displaced) refl
+
+pub sum_none : (f : Fed) → sum_fed f (all_entered 0) ≡ f
+sum_none f = fed_same _ _ _ _ _ _ _ _ _ _ (add-zero f.entered) (add-zero f.passed) (add-zero f.denied) (add-zero f.displaced) (or_none f.first)
+
+capped_same : (n : ℕ) → n < 2 ^ 64 → capped n ≡ n
+capped_same n l = omega arith
+
+-- no number of a sum reaches n
+abbrev pub FedBelow : ℕ → Fed → Type 0
+FedBelow n f = (f.entered < n) × (f.passed < n) × (f.denied < n) × (f.displaced < n)
+
+pub capped_fed_same : (f : Fed) → FedBelow (2 ^ 64) f → capped_fed f ≡ f
+capped_fed_same f l = fed_same _ _ _ _ _ _ _ _ _ _ (capped_same f.entered l.0) (capped_same f.passed l.1) (capped_same f.denied l.2) (capped_same f.displaced l.3) refl
+
+-- a sum of two is below where a sum of three is
+below_part : (n : ℕ) (f g h all : Fed) → sum_fed f (sum_fed g h) ≡ all → FedBelow n all → FedBelow n (sum_fed f g)
+below_part n f g h all e l =
+    let a = ap (λ x. x.entered) e in
+    let b = ap (λ x. x.passed) e in
+    let c = ap (λ x. x.denied) e in
+    let d = ap (λ x. x.displaced) e in
+    (omega arith, omega arith, omega arith, omega arith)
+
+module _ {P : Type 0} (M : Meaning P) where
+  judged_one : (place : ℕ) (o : Outcome P) → then_judged place o (all_entered 0) ≡ one_fed place (verdict_of o)
+  judged_one place (judged v gone after) = fed_same _ _ _ _ _ _ _ _ _ _ (add-zero (entries v)) (add-zero (1 - entries v)) refl (add-zero (length gone)) refl
+  judged_one place full = refl
+
+  tally_one : (rows : ℕ) (ms : List (Trial P)) (x : TrialAt P) → tally M rows ms (x ∷ []) ≡ one_fed x.place (trial_answer M rows ms x.read)
+  unfolding tally
+  tally_one rows ms x =
+      let o = judge M rows ms x.read in
+      elim (on_grid M x.read) as (λ b. cond b (then_judged x.place o (all_entered 0)) (then_denied (OffGrid x.place) (all_entered 0)) ≡ one_fed x.place (cond b (verdict_of o) (Err denial.OffGrid))) [
+        | true ↦ judged_one x.place o
+        | false ↦ refl
+      ]
+
+  members_one : (rows : ℕ) (ms : List (Trial P)) (x : TrialAt P) → members_taken M rows ms (x ∷ []) ≡ members_tried M rows ms x.read
+  unfolding members_after
+  members_one rows ms x =
+      let t = x.read in
+      elim (on_grid M t) as (λ b. members_after M rows ms (cond b (t ∷ []) []) ≡ cond b (members_then ms (judge M rows ms t)) ms) [ true ↦ refl | false ↦ refl ]
+
+  judged_sum : (place : ℕ) (o : Outcome P) (f g : Fed) → then_judged place o (sum_fed f g) ≡ sum_fed (then_judged place o f) g
+  judged_sum place (judged v gone after) f g =
+      fed_same _ _ _ _ _ _ _ _ _ _ (sym (add_assoc (entries v) f.entered g.entered)) (sym (add_assoc (1 - entries v) f.passed g.passed)) refl (sym (add_assoc (length gone) f.displaced g.displaced)) refl
+  judged_sum place full f g = fed_same _ _ _ _ _ _ _ _ _ _ refl refl (sym (add_assoc 1 f.denied g.denied)) refl refl
+
+  denied_sum : (place : ℕ) (f g : Fed) → then_denied (OffGrid place) (sum_fed f g) ≡ sum_fed (then_denied (OffGrid place) f) g
+  denied_sum place f g = fed_same _ _ _ _ _ _ _ _ _ _ refl refl (sym (add_assoc 1 f.denied g.denied)) refl refl
+
+  -- some trials and then others
+  pub taken_append : (rows : ℕ) (ms : List (Trial P)) (xs ys : List (TrialAt P))
+      → (tally M rows ms (xs ++ ys) ≡ sum_fed (tally M rows ms xs) (tally M rows (members_taken M rows ms xs) ys)) × (members_taken M rows ms (xs ++ ys) ≡ members_taken M rows (members_taken M rows ms xs) ys)
+  unfolding tally members_after
+  taken_append rows ms [] ys = (sym (none_sum (tally M rows ms ys)), refl)
+  taken_append rows ms (x ∷ xs) ys =
+      let t = x.read in
+      let o = judge M rows ms t in
+      let ts = filter (on_grid M) (map (λ x. x.read) xs) in
+      let us = filter (on_grid M) (map (λ x. x.read) ys) in
+      let all = filter (on_grid M) (map (λ x. x.read) (xs ++ ys)) in
+      let on = taken_append rows (members_then ms o) xs ys in
+      let off = taken_append rows ms xs ys in
+      elim (on_grid M t) as (λ b.
+      (cond b (then_judged x.place o (tally M rows (members_then ms o) (xs ++ ys))) (then_denied (OffGrid x.place) (tally M rows ms (xs ++ ys))) ≡ sum_fed (cond b (then_judged x.place o (tally M rows (members_then ms o) xs)) (then_denied (OffGrid x.place) (tally M rows ms xs))) (tally M rows (members_after M rows ms (cond b (t ∷ ts) ts)) ys))
+      × (members_after M rows ms (cond b (t ∷ all) all) ≡ members_after M rows (members_after M rows ms (cond b (t ∷ ts) ts)) us)) [
+        | true ↦ (ap (then_judged x.place o) on.0 ∙ judged_sum x.place o (tally M rows (members_then ms o) xs) (tally M rows (members_taken M rows (members_then ms o) xs) ys), on.1)
+        | false ↦ (ap (then_denied (OffGrid x.place)) off.0 ∙ denied_sum x.place (tally M rows ms xs) (tally M rows (members_taken M rows ms xs) ys), off.1)
+      ]
+
+  -- of so many trials each counts once, and each leaves at most one member more than stayed
+  abbrev FewFed : ℕ → List (Trial P) → List (Trial P) → Fed → Type 0
+  FewFed n ms ms' f = (f.entered + f.passed + f.denied ≡ n) × (f.displaced + length ms' ≤ length ms + n)
+
+  judged_few : (ms ms' : List (Trial P)) (place n : ℕ) (o : Outcome P) (f : Fed) → length (gone_of o) + length (members_then ms o) ≤ length ms + 1 → FewFed n (members_then ms o) ms' f → FewFed (n + 1) ms ms' (then_judged place o f)
+  judged_few ms ms' place n (judged PassedOver gone after) f l h = (omega (arith, h.0), omega (arith, h.1))
+  judged_few ms ms' place n (judged Entered gone after) f l h = (omega (arith, h.0), omega (arith, h.1))
+  judged_few ms ms' place n (judged Displaced gone after) f l h = (omega (arith, h.0), omega (arith, h.1))
+  judged_few ms ms' place n (judged Replaced gone after) f l h = (omega (arith, h.0), omega (arith, h.1))
+  judged_few ms ms' place n full f l h = (omega (arith, h.0), omega (arith, h.1))
+
+  tally_few : (rows : ℕ) (ms : List (Trial P)) (xs : List (TrialAt P)) → FewFed (length xs) ms (members_taken M rows ms xs) (tally M rows ms xs)
+  unfolding tally members_after
+  tally_few rows ms [] = (refl, omega arith)
+  tally_few rows ms (x ∷ xs) =
+      let t = x.read in
+      let o = judge M rows ms t in
+      let ts = filter (on_grid M) (map (λ x. x.read) xs) in
+      let on = tally_few rows (members_then ms o) xs in
+      let off = tally_few rows ms xs in
+      subst (λ n. FewFed n ms (members_taken M rows ms (x ∷ xs)) (tally M rows ms (x ∷ xs))) (add-one (length xs))
+      (elim (on_grid M t) as (λ b. FewFed (length xs + 1) ms (members_after M rows ms (cond b (t ∷ ts) ts)) (cond b (then_judged x.place o (tally M rows (members_then ms o) xs)) (then_denied (OffGrid x.place) (tally M rows ms xs)))) [
+        | true ↦ judged_few ms (members_taken M rows (members_then ms o) xs) x.place (length xs) o (tally M rows (members_then ms o) xs) (few_go M t rows ms).1 on
+        | false ↦ (omega (arith, off.0), omega (arith, off.1))
+      ])
+
+  tally_below : (rows : ℕ) (ms : List (Trial P)) (xs : List (TrialAt P)) → length ms ≤ 4096 → length xs ≤ 255 → FedBelow (2 ^ 64) (tally M rows ms xs)
+  tally_below rows ms xs few short = let f = tally_few rows ms xs in (omega (arith, f.0), omega (arith, f.0), omega (arith, f.0), omega (arith, f.1))
+
+  -- one trial is tried
+  pub taken_one : (x : TrialAt P) (count : ℕ) (held held' : List (Trial P)) (r : Stepped) → TriedRight M x.read count held r held' → TakenRight M (x ∷ []) count held (record { fed = one_fed x.place r.answer; count = r.count }) held'
+  taken_one x count held held' r T = record {
+    told = ap (one_fed x.place) T.value ∙ sym (tally_one (length held) (take count held) x);
+    in_order = T.in_order ∙ sym (members_one (length held) (take count held) x);
+    fits = T.fits;
+    long = T.long;
+  }
+
+  -- none is
+  pub taken_none : (count : ℕ) (held : List (Trial P)) → count ≤ length held → TakenRight M [] count held (record { fed = all_entered 0; count = count }) held
+  unfolding tally members_after
+  taken_none count held l = record { told = refl; in_order = refl; fits = l; long = refl }
+
+  -- all of the trials xs come to what those came to that were tried, and what is left comes to
+  pub record Going (xs : List (TrialAt P)) (count : ℕ) (held : List (Trial P)) (left : List (TrialAt P)) (r : Taken) (held' : List (Trial P)) : Type 0 where
+    pub told : sum_fed r.fed (tally M (length held) (take r.count held') left) ≡ tally M (length held) (take count held) xs
+    pub in_order : members_taken M (length held) (take r.count held') left ≡ members_taken M (length held) (take count held) xs
+    pub fits : r.count ≤ length held
+    pub long : length held' ≡ length held
+
+  module _ (xs : List (TrialAt P)) (count : ℕ) (held : List (Trial P)) where
+    pub going_none : count ≤ length held → Going xs count held xs (record { fed = all_entered 0; count = count }) held
+    going_none l = record { told = none_sum (tally M (length held) (take count held) xs); in_order = refl; fits = l; long = refl }
+
+    pub going_more : (now left : List (TrialAt P)) (r next : Taken) (held₁ held₂ : List (Trial P)) → count ≤ 4096 → length xs ≤ 255 → Going xs count held (now ++ left) r held₁ → TakenRight M now r.count held₁ next held₂ → Going xs count held left (record { fed = capped_fed (sum_fed r.fed next.fed); count = next.count }) held₂
+    going_more now left r next held₁ held₂ few short G T =
+        let n = length held in
+        let ms = take r.count held₁ in
+        let same = G.long in
+        let append = taken_append n ms now left in
+        let members : take next.count held₂ ≡ members_taken M n ms now = T.in_order ∙ ap (λ k. members_taken M k ms now) same in
+        let fed : next.fed ≡ tally M n ms now = T.told ∙ ap (λ k. tally M k ms now) same in
+        let rest = tally M n (take next.count held₂) left in
+        let both : sum_fed next.fed rest ≡ tally M n ms (now ++ left) = ap (λ f. sum_fed f rest) fed ∙ ap (λ l. sum_fed (tally M n ms now) (tally M n l left)) members ∙ sym append.0 in
+        let all : sum_fed r.fed (sum_fed next.fed rest) ≡ tally M n (take count held) xs = ap (sum_fed r.fed) both ∙ G.told in
+        let below = tally_below n (take count held) xs (omega (arith, length-take count held)) short in
+        let same_sum = capped_fed_same (sum_fed r.fed next.fed) (below_part (2 ^ 64) r.fed next.fed rest (tally M n (take count held) xs) all below) in
+        record {
+          told = ap (λ f. sum_fed f rest) same_sum ∙ sum_assoc r.fed next.fed rest ∙ all;
+          in_order = ap (λ l. members_taken M n l left) members ∙ sym append.1 ∙ G.in_order;
+          fits = omega (arith, T.fits, same);
+          long = T.long ∙ same;
+        }
+
+    pub going_all : (r : Taken) (held' : List (Trial P)) → Going xs count held [] r held' → TakenRight M xs count held r held'
+    unfolding tally members_after
+    going_all r held' G = record { told = sym (sum_none r.fed) ∙ G.told; in_order = G.in_order; fits = G.fits; long = G.long }
+
+module _ {P : Type 0} (reads : List ℕ → P) where
+  -- the trials of records are those of the first and those of the rest
+  pub trials_first : (x : ItemAt) (xs : List ItemAt) → trials_of reads (x ∷ xs) ≡ trials_of reads (x ∷ []) ++ trials_of reads xs
+  trials_first x xs =
+      elim x.item as (λ i. trials_of reads (record { place = x.place; item = i } ∷ xs) ≡ trials_of reads (record { place = x.place; item = i } ∷ []) ++ trials_of reads xs) [ trial tag bytes ↦ refl | note text ↦ refl ]
+
+  -- there are no more trials than records
+  pub trials_few : (xs : List ItemAt) → length (trials_of reads xs) ≤ length xs
+  trials_few [] = omega arith
+  trials_few (x ∷ xs) =
+      let rest = trials_few xs in
+      elim x.item as (λ i. length (trials_of reads (record { place = x.place; item = i } ∷ xs)) ≤ suc (length xs)) [ trial tag bytes ↦ omega arith | note text ↦ omega arith ]
+
+module _ {P : Type 0} (M : Meaning P) (reads : List ℕ → P) (place count : ℕ) (i : Item) (held : List (Trial P)) (fed : Fed) where
+  -- a record that is a trial is tried
+  pub record_tried : (tag : ℕ) (bytes : List ℕ) (p : P) (held' : List (Trial P)) (r : Stepped) → i ≡ trial tag bytes → p ≡ reads bytes → fed ≡ one_fed place r.answer → TriedRight M (record { point = p; tag = tag }) count held r held' → TakenRight M (trials_of reads (record { place = place; item = i } ∷ [])) count held (record { fed = fed; count = r.count }) held'
+  record_tried tag bytes p held' r e read told T =
+      rw (e, told)
+      (taken_one M (record { place = place; read = record { point = reads bytes; tag = tag } }) count held held' r (subst (λ p. TriedRight M (record { point = p; tag = tag }) count held r held') read T))
+
+  -- and one that is a note is skipped
+  pub record_skipped : (text : List ℕ) → i ≡ note text → fed ≡ all_entered 0 → count ≤ length held → TakenRight M (trials_of reads (record { place = place; item = i } ∷ [])) count held (record { fed = fed; count = count }) held
+  record_skipped text e told l = rw (e, told) (taken_none M count held l)
+
+module _ {P : Type 0} (M : Meaning P) (reads : List ℕ → P) (xs : List (TrialAt P)) (count : ℕ) (held : List (Trial P)) where
+  -- one record more is taken
+  pub going_record : (before after : List ItemAt) (x : ItemAt) (r next : Taken) (fed : Fed) (held₁ held₂ : List (Trial P)) → count ≤ 4096 → length xs ≤ 255 → before ≡ x ∷ after → fed ≡ capped_fed (sum_fed r.fed next.fed)
+      → Going M xs count held (trials_of reads before) r held₁ → TakenRight M (trials_of reads (x ∷ [])) r.count held₁ next held₂ → Going M xs count held (trials_of reads after) (record { fed = fed; count = next.count }) held₂
+  going_record before after x r next fed held₁ held₂ few short first sum G T =
+      let split = ap (trials_of reads) first ∙ trials_first reads x after in
+      rw sum
+      (going_more M xs count held (trials_of reads (x ∷ [])) (trials_of reads after) r next held₁ held₂ few short (subst (λ ys. Going M xs count held ys r held₁) split G) T)
+
+  -- all are
+  pub going_records : (left : List ItemAt) (r : Taken) (held' : List (Trial P)) → left ≡ [] → Going M xs count held (trials_of reads left) r held' → TakenRight M xs count held r held'
+  going_records left r held' none G = going_all M xs count held r held' (subst (λ l. Going M xs count held (trials_of reads l) r held') none G)
