@@ -6,3 +6,4 @@ pub mod Auditing
 pub mod Listing
 pub mod Summing
 pub mod Feeding
+pub mod Saving

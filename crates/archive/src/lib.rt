@@ -13,6 +13,7 @@ mod listing;
 mod making;
 mod needing;
 mod offering;
+mod saving;
 mod summing;
 
 pub use holding::Archive;

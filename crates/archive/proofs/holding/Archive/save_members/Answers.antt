@@ -1,0 +1,60 @@
+use Rattle.std.proofs.Common.{◌≡◌, ◌*◌, ◌≤◌, [], length, take, refl, ap, ◌∙◌, arith, rules}
+use Rattle.std.proofs.lemmas.List.{length-take-le}
+use Rattle.history.specs.Saving.{block_count, part, per_block}
+use Rattle.archive.specs.Lent.{lending}
+use Rattle.archive.proofs.Idle.{strange_is}
+use Rattle.archive.proofs.Saved.{block_begins, block_saved, blocks_few, part_long, save_granted, save_past, save_right, save_wrong, some_per_block}
+use Rattle.archive.proofs.holding.Archive.save_members.Goals as goal
+
+pub returns-then-rows-self : goal.returns-then-rows-self
+returns-then-rows-self g c = save_right _ _ (g.met.S.Space.lawful c.args.self.now.space) _ _ _ _ _ (strange_is _ _ _ c.if-rows-self.true) refl
+
+pub returns-then-block-ne512 : goal.returns-then-block-ne512
+returns-then-block-ne512 g c =
+    let a = c.args.self.now in
+    let rows = c.args.rows.now in
+    save_right _ _ (g.met.S.Space.lawful a.space) _ _ _ _ _ (save_wrong a.rows (length rows) c.args.number (length c.args.block.now) (g.S.Space.meaning a.space) (take a.count rows) c.if-rows-self.false c.if-block-ne512.true) refl
+
+pub returns-then-blocks-number : goal.returns-then-blocks-number
+returns-then-blocks-number g c =
+    let a = c.args.self.now in
+    let M = g.S.Space.meaning a.space in
+    let rows = c.args.rows.now in
+    let full : length (take a.count rows) ≡ a.count = length-take-le a.count rows (search rules) in
+    save_right _ _ (g.met.S.Space.lawful a.space) _ _ _ _ _
+    (save_past a.rows (length rows) c.args.number (length c.args.block.now) M (take a.count rows) c.if-rows-self.false c.if-block-ne512.false
+    (omega (arith, c.blocks-2.ensures [], ap (block_count (per_block M)) full, c.if-blocks-number.true)))
+    refl
+
+pub part-part-requires : goal.part-part-requires
+part-part-requires g c =
+    let a = c.args.self.now in
+    let M = g.S.Space.meaning a.space in
+    let some = some_per_block M (g.met.S.Space.lawful a.space) in
+    let begins = block_begins (per_block M) a.count c.args.number some.0 (omega (arith, c.blocks-2.ensures [], c.if-blocks-number.false)) in
+    let same = ap (λ q. c.args.number * q) c.per_block.ensures.value in
+    omega (arith, same, begins, c.split_at.ensures.front_len)
+
+pub write_part-requires-clause-fits : goal.write_part-requires-clause-fits
+write_part-requires-clause-fits g c =
+    let a = c.args.self.now in
+    let M = g.S.Space.meaning a.space in
+    let few : a.count ≤ 4096 = search rules in
+    let some = some_per_block M (g.met.S.Space.lawful a.space) in
+    let blocks = blocks_few (per_block M) a.count some.1 in
+    (omega (arith, c.blocks-2.ensures [], c.if-blocks-number.false), c.if-block-ne512.false)
+
+pub returns : goal.returns
+returns g c =
+    let a = c.args.self.now in
+    let M = g.S.Space.meaning a.space in
+    let rows = c.args.rows.now in
+    let members = take a.count rows in
+    let k = c.args.number in
+    let full : length members ≡ a.count = length-take-le a.count rows (search rules) in
+    let written : c.part-part.result.now ≡ part (per_block M) members k = c.part-part.ensures ∙ ap (λ q. part q c.split_at.result.0.now k) c.per_block.ensures.value ∙ ap (λ ms. part (per_block M) ms k) c.split_at.ensures.front in
+    save_right _ _ (g.met.S.Space.lawful a.space) _ _ _ _ _
+    (save_granted a.rows (length rows) k (length c.args.block.now) M members c.if-rows-self.false c.if-block-ne512.false (length c.part-part.result.now)
+    (omega (arith, c.blocks-2.ensures [], ap (block_count (per_block M)) full, c.if-blocks-number.false))
+    (ap length written ∙ part_long (per_block M) members k))
+    (block_saved M (g.S.Recorded.recording a.space) (g.met.S.Space.lawful a.space) k (lending a rows []) c.args.block.now (length c.part-part.result.now) c.write_part.new.block c.part-part.result.now written c.write_part.ensures)

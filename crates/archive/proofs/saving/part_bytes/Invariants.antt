@@ -1,0 +1,9 @@
+use Rattle.std.proofs.Common.{◌≡◌, map, length, take}
+use Rattle.log_block.specs.Writing.{trial_item}
+use Rattle.history.specs.Saving.{item_for}
+use Rattle.archive.proofs.saving.part_bytes.Given as goal
+
+abbrev pub invariant-loop-i : goal.invariant-loop-i
+invariant-loop-i g l =
+    (length l.bytes ≡ 50)
+    × (map (trial_item (g.S.Space.meaning l.space).objectives) (take l.i l.bytes) ≡ map (item_for (g.S.Recorded.recording l.space)) (take l.i l.part))
