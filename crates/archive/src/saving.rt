@@ -3,7 +3,7 @@ ghost use Rattle.std.specs.Prelude.{◌≡◌, ◌+◌, ◌*◌, ◌^◌, ◌<�
 ghost use Rattle.space.specs.Recording.{FourEach};
 ghost use Rattle.space.specs.declared.tagged.Trial.{Trial as TrialOf};
 ghost use Rattle.log_block.specs.Block.{block_of};
-ghost use Rattle.log_block.specs.Writing.{trial_item};
+ghost use Rattle.log_block.specs.Writing.{trial_item, written_over};
 ghost use Rattle.history.specs.Saving.{block_count, item_for, part, per_block};
 ghost use Rattle.archive.specs.Lent.{lending};
 ghost use Rattle.archive.specs.Saving.{SaveRight, blocks_of};
@@ -70,7 +70,15 @@ fn part_bytes<S: Recorded>(space: &S, part: &[Trial<S::Point>]) -> [TrialBytes; 
     bytes
 }
 
-// Writes these trials over the whole of a block that has room for them.
+// Writes these trials over the whole of a block, as far as it has room for them.
+fn write_trials(block: &mut [u8], objectives: u8, number: usize, trials: &[TrialBytes])
+    requires { number < 2 ^ 32 }
+    ensures { block.new ≡ written_over objectives number trials.now block.old }
+{
+    let _ = write(block, objectives, number as u32, trials);
+}
+
+// Writes these trials, for which there is room, over the whole of a block.
 fn write_part<S: Recorded>(space: &S, part: &[Trial<S::Point>], number: usize, block: &mut [u8])
     requires four_each { FourEach (S.Space.meaning space.now) (S.Recorded.recording space.now) }
     requires few { length part.now ≤ per_block (S.Space.meaning space.now) }
@@ -79,7 +87,7 @@ fn write_part<S: Recorded>(space: &S, part: &[Trial<S::Point>], number: usize, b
 {
     let bytes = part_bytes(space, part);
     let (trials, _) = bytes.split_at(part.len());
-    let _ = write(block, space.objectives() as u8, number as u32, trials);
+    write_trials(block, space.objectives() as u8, number, trials);
 }
 
 impl<S: Recorded> Archive<S> {
