@@ -6,6 +6,7 @@ pub mod Fed
 pub mod Idle
 pub mod Offers
 pub mod Pairing
+pub mod Returned
 pub mod Saved
 pub mod Stepped
 pub mod Tags

@@ -22,7 +22,7 @@ use Rattle.archive.specs.Summing.{capped, capped_fed, one_fed, sum_fed}
 use Rattle.archive.proofs.Stepped.{few_go}
 
 -- two sums with the same parts
-fed_same : (a b c d a' b' c' d' : ℕ) (f f' : _) → a ≡ a' → b ≡ b' → c ≡ c' → d ≡ d' → f ≡ f' → ◌≡◌ {A = Fed} (record { entered = a; passed = b; denied = c; displaced = d; first = f }) (record { entered = a'; passed = b'; denied = c'; displaced = d'; first = f' })
+pub fed_same : (a b c d a' b' c' d' : ℕ) (f f' : _) → a ≡ a' → b ≡ b' → c ≡ c' → d ≡ d' → f ≡ f' → ◌≡◌ {A = Fed} (record { entered = a; passed = b; denied = c; displaced = d; first = f }) (record { entered = a'; passed = b'; denied = c'; displaced = d'; first = f' })
 fed_same a b c d a' b' c' d' f f' ea eb ec ed ef = cc
 
 or_assoc : {A : Type 0} (a b c : _) → option_or {T = A} (option_or a b) c ≡ option_or a (option_or b c)

@@ -7,3 +7,4 @@ pub mod Listing
 pub mod Summing
 pub mod Feeding
 pub mod Saving
+pub mod Restoring

@@ -13,9 +13,11 @@ mod listing;
 mod making;
 mod needing;
 mod offering;
+mod restoring;
 mod saving;
 mod summing;
 
 pub use holding::Archive;
 pub use making::Refused;
 pub use needing::row_need;
+pub use restoring::{RestoreFault, Restored, Unrestored, restore};

@@ -1,0 +1,117 @@
+-- What holds of a restore: the first block at fault, and all blocks fed one after the other.
+use Rattle.std.proofs.Common.{◌≡◌, ℕ, ◌+◌, ◌<◌, List, [], ◌∷◌, ◌++◌, map, length, get_or, take, drop, Some, None, Ok, Err, Option, Result, sym, refl, ap, ◌∙◌, subst, arith}
+use Rattle.std.specs.Borrow.{Bor}
+use Rattle.std.proofs.lemmas.List.{drop_more, get_or-map, map_more, map_push, reverse-append}
+use Rattle.space.specs.Meaning.{Meaning}
+use Rattle.space.specs.Recording.{Recording, read_point}
+use Rattle.log_block.specs.declared.faults.Fault.{Fault}
+use Rattle.log_block.specs.Block.{checked}
+use Rattle.log_block.specs.Items.{ItemAt}
+use Rattle.history.specs.declared.answers.Answer.{Answer}
+use Rattle.history.specs.declared.answers.Fed.{Fed}
+use Rattle.history.specs.declared.faults.FeedFault.{FeedFault}
+use Rattle.history.specs.Answers.{told_feed}
+use Rattle.history.specs.Calls.{Event, answers, begun, ◌▸◌}
+use Rattle.history.specs.Calls.Call.{feed}
+use Rattle.history.specs.Checks.{making_denial}
+use Rattle.history.specs.Feeding.{all_entered}
+use Rattle.history.specs.Saving.{saved_blocks}
+use Rattle.history.specs.Stands.{Stands}
+use Rattle.history.proofs.Feeds.{round_trip}
+use Rattle.archive.specs.declared.restoring.RestoreFault.{RestoreFault}
+use Rattle.archive.specs.declared.restoring.RestoreFault.TheVariants.{Block, Denied}
+use Rattle.archive.specs.Feeding.{FeedRight}
+use Rattle.archive.specs.Lent.{Lent}
+use Rattle.archive.specs.Restoring.{BringsBack, FedAll, RestoreRight, all_fed, fed_of, first_at_fault, restore_fault}
+use Rattle.archive.specs.Standing.{Begins}
+use Rattle.archive.specs.Summing.{capped, capped_fed, sum_fed}
+use Rattle.archive.proofs.Taking.{fed_same, none_sum, sum_assoc, sum_none}
+
+-- the bytes of blocks that are lent
+abbrev pub bytes_of : List (Bor (List ℕ)) → List (List ℕ)
+bytes_of blocks = map (λ b. b.now) blocks
+
+-- one block more of those that are lent
+pub bytes_more : (blocks : List (Bor (List ℕ))) (i : ℕ) → i < length blocks → bytes_of (take (i + 1) blocks) ≡ bytes_of (take i blocks) ++ (get_or (bytes_of blocks) i [] ∷ [])
+bytes_more blocks i inside =
+    let d : Bor (List ℕ) = record { ref_ptr = (0, 0); now = [] } in
+    map_more (λ b. b.now) blocks i d inside ∙ ap (λ x. bytes_of (take i blocks) ++ (x ∷ [])) (sym (get_or-map (λ b. b.now) blocks i d [] inside))
+
+module _ (m : ℕ) (blocks : List (Bor (List ℕ))) (i : ℕ) (b : Bor (List ℕ)) (inside : i < length blocks) (read : b ≡ get_or blocks i b) where
+  -- from this block on
+  from_here : first_at_fault m i (bytes_of (drop i blocks)) ≡ first_at_fault m i (b.now ∷ bytes_of (drop (i + 1) blocks))
+  from_here = ap (λ l. first_at_fault m i (bytes_of l)) (drop_more blocks i b inside ∙ ap (λ x. x ∷ drop (i + 1) blocks) (sym read))
+
+  abbrev told_by : Result (List ItemAt) Fault → Option RestoreFault
+  told_by r = elim r [ Ok found ↦ first_at_fault m (i + 1) (bytes_of (drop (i + 1) blocks)) | Err f ↦ Some (Block i f) ]
+
+  -- nothing is wrong with it
+  pub fault_later : (found : List ItemAt) → checked m b.now ≡ Ok found → first_at_fault m i (bytes_of (drop i blocks)) ≡ first_at_fault m (i + 1) (bytes_of (drop (i + 1) blocks))
+  fault_later found e = from_here ∙ ap told_by e
+
+  -- it is at fault
+  pub fault_here : (f : Fault) → checked m b.now ≡ Err f → first_at_fault m i (bytes_of (drop i blocks)) ≡ Some (Block i f)
+  fault_here f e = from_here ∙ ap told_by e
+
+-- sums that stop at the greatest number
+capped_more : (a b : ℕ) → capped (capped a + b) ≡ capped (a + b)
+capped_more a b = omega arith
+
+capped_sum : (f g : Fed) → capped_fed (sum_fed (capped_fed f) g) ≡ capped_fed (sum_fed f g)
+capped_sum f g =
+    fed_same _ _ _ _ _ _ _ _ _ _ (capped_more f.entered g.entered) (capped_more f.passed g.passed) (capped_more f.denied g.denied) (capped_more f.displaced g.displaced) refl
+
+all_fed_push : (xs : List Answer) (x : Answer) → all_fed (xs ++ (x ∷ [])) ≡ sum_fed (all_fed xs) (fed_of x)
+all_fed_push [] x = sum_none (fed_of x) ∙ sym (none_sum (fed_of x))
+all_fed_push (y ∷ xs) x = ap (sum_fed (fed_of y)) (all_fed_push xs x) ∙ sym (sum_assoc (fed_of y) (all_fed xs) (fed_of x))
+
+module _ {P : Type 0} (M : Meaning P) (reads : List ℕ → P) where
+  -- no block is fed yet
+  pub fed_none : (a : Lent P) (total : Fed) → total ≡ all_entered 0 → Begins M a.rows a.count a.held → FedAll M reads [] total a
+  fed_none a total e begins = record { history = begun a.rows; called = refl; stands = begins reads; told = e }
+
+  -- one block more
+  pub fed_more : (blocks : List (List ℕ)) (block : List ℕ) (total total' fed : Fed) (a b : Lent P) (r : Result Fed FeedFault) → FedAll M reads blocks total a → FeedRight M reads block a r b → fed ≡ fed_of (told_feed r) → total' ≡ capped_fed (sum_fed total fed) → FedAll M reads (blocks ++ (block ∷ [])) total' b
+  fed_more blocks block total total' fed a b r all right told sum =
+      let h = all.history in
+      let S = all.stands in
+      let e : Event P = record { call = feed (length a.held) block; answer = told_feed r } in
+      record {
+        history = h ▸ e;
+        called =
+            reverse-append (e.call ∷ []) (map (λ x. x.call) h.events)
+            ∙ ap (λ xs. xs ++ (e.call ∷ [])) all.called
+            ∙ ap (λ n. map (feed a.rows) blocks ++ (feed n block ∷ [])) S.long
+            ∙ sym (map_push (feed a.rows) blocks block)
+            ∙ ap (λ n. map (feed n) (blocks ++ (block ∷ []))) (sym right.same_rows);
+        stands = subst (λ n. Stands M reads (h ▸ e) n b.count b.held) (sym right.same_rows) (right.stays h S);
+        told =
+            sum
+            ∙ ap (λ f. capped_fed (sum_fed f fed)) all.told
+            ∙ capped_sum (all_fed (answers h)) fed
+            ∙ ap (λ f. capped_fed (sum_fed (all_fed (answers h)) f)) told
+            ∙ ap capped_fed (sym (ap all_fed (reverse-append (e.answer ∷ []) (map (λ x. x.answer) h.events)) ∙ all_fed_push (answers h) e.answer));
+      }
+
+-- the blocks of a history's members are brought back
+brought_back : {P : Type 0} (M : Meaning P) (R : Recording P) (blocks : List (List ℕ)) (fed : Fed) (b : Lent P) → FedAll M (read_point R) blocks fed b → BringsBack M R blocks b
+brought_back M R blocks fed b all laws reads h tags enough saved =
+    let S = all.stands in
+    let k = all.history in
+    let back = round_trip M R laws reads h tags k (record {
+      truthful = S.truthful;
+      enough = omega (arith, enough, S.made);
+      feeds = all.called ∙ ap (λ n. map (feed n) blocks) S.made ∙ ap (map (feed k.rows)) saved;
+    }) in
+    let same = S.in_order ∙ back.same_members in
+    (same, ap (saved_blocks M R) same ∙ sym saved)
+
+pub restored_right : {P : Type 0} (M : Meaning P) (R : Recording P) (blocks : List (List ℕ)) (fed : Fed) (b : Lent P) → FedAll M (read_point R) blocks fed b → RestoreRight M R blocks fed b
+restored_right M R blocks fed b all = record { fed_all = all; brings_back = brought_back M R blocks fed b all }
+
+-- the making is granted, and no block is at fault
+pub no_fault : {P : Type 0} (M : Meaning P) (rows m : ℕ) (blocks : List (List ℕ)) → m ≡ M.objectives → making_denial rows ≡ None → None ≡ first_at_fault m 0 blocks → restore_fault M rows blocks ≡ None
+no_fault M rows m blocks same granted sound =
+    ap (λ d. elim d [ Some x ↦ Some (Denied x) | None ↦ first_at_fault M.objectives 0 blocks ]) granted
+    ∙ ap (λ n. first_at_fault n 0 blocks) (sym same)
+    ∙ sym sound
