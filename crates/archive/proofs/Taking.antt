@@ -43,7 +43,7 @@ none_sum f = fed_same _ _ _ _ _ _ _ _ _ _ (zero-add f.entered) (zero-add f.passe
 pub sum_none : (f : Fed) → sum_fed f (all_entered 0) ≡ f
 sum_none f = fed_same _ _ _ _ _ _ _ _ _ _ (add-zero f.entered) (add-zero f.passed) (add-zero f.denied) (add-zero f.displaced) (or_none f.first)
 
-capped_same : (n : ℕ) → n < 2 ^ 64 → capped n ≡ n
+pub capped_same : (n : ℕ) → n < 2 ^ 64 → capped n ≡ n
 capped_same n l = omega arith
 
 -- no number of a sum reaches n

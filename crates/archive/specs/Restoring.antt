@@ -52,13 +52,13 @@ pub record FedAll {P : Type 0} (M : Meaning P) (reads : List ℕ → P) (blocks 
   pub told : fed ≡ capped_fed (all_fed (answers history))
 
 -- where these are the blocks of what a history made of its trials, and there are rows enough, the archive has the same members
--- in the same order, and they are the same blocks
-abbrev pub BringsBack : {P : Type 0} → Meaning P → Recording P → List (List ℕ) → Lent P → Type 0
-BringsBack {P} M R blocks b =
+-- in the same order, they are the same blocks, and what was told is that all of them entered
+abbrev pub BringsBack : {P : Type 0} → Meaning P → Recording P → List (List ℕ) → told.Fed → Lent P → Type 0
+BringsBack {P} M R blocks fed b =
     RecordedLaws M R → (reads : List ℕ → P) (h : History P) → TagsFit (state M reads h).members → length (state M reads h).members ≤ b.rows → blocks ≡ saved_blocks M R (state M reads h).members →
-    (members b ≡ (state M reads h).members) × (saved_blocks M R (members b) ≡ blocks)
+    (members b ≡ (state M reads h).members) × (saved_blocks M R (members b) ≡ blocks) × (fed ≡ all_entered (length (state M reads h).members))
 
 -- what holds of every restore that is not refused: b is the archive with its rows
 pub record RestoreRight {P : Type 0} (M : Meaning P) (R : Recording P) (blocks : List (List ℕ)) (fed : told.Fed) (b : Lent P) : Type 0 where
   pub fed_all : FedAll M (read_point R) blocks fed b
-  pub brings_back : BringsBack M R blocks b
+  pub brings_back : BringsBack M R blocks fed b
