@@ -17,7 +17,7 @@ use Rattle.history.specs.Step.{judge}
 use Rattle.archive.specs.Lent.{Lent, members}
 use Rattle.archive.specs.Listing.{ListRight, listed_over}
 use Rattle.archive.specs.Offering.{OfferRight, TagsInFront, gone_of, to_judge}
-use Rattle.archive.specs.Standing.{Stays}
+use Rattle.archive.specs.Standing.{StaysAs}
 use Rattle.replay.specs.Leaving.{Leaves, ListLeaves, OfferLeaves}
 use Rattle.replay.specs.Replaying.{Ran}
 
@@ -67,7 +67,7 @@ module _ {P : Type 0} (M : Meaning P) (t : Trial P) (a b : Lent P) (r : Result O
       let size : length a.list ≡ room = ap length front ∙ length-take-le room whole within in
       record {
         same_rows = right.same_rows;
-        stays = subst (λ n. Stays M a.rows (offer (length a.held) n t) (told answer.Offered r) a.count a.held b.count b.held) size right.stays;
+        stays = λ reads _. subst (λ n. StaysAs M reads a.rows (offer (length a.held) n t) (told answer.Offered r) a.count a.held b.count b.held) size (right.stays reads);
         leaves = subst (λ n. Leaves M a.rows (members a) (offer (length a.held) n t) whole (b.list ++ drop room whole)) size (leaves_judged (to_judge M a t) refl);
       }
 
@@ -105,6 +105,6 @@ module _ {P : Type 0} (M : Meaning P) (a : Lent P) (r : Result ℕ Denial) (afte
       let said = list_answer a.rows (members a) (length a.held) (length a.list) in
       record {
         same_rows = refl;
-        stays = subst (λ n. Stays M a.rows (list (length a.held) n) (told answer.Listed r) a.count a.held a.count a.held) size right.stays;
+        stays = λ reads _. subst (λ n. StaysAs M reads a.rows (list (length a.held) n) (told answer.Listed r) a.count a.held a.count a.held) size (right.stays reads);
         leaves = subst (λ n. Leaves M a.rows (members a) (list (length a.held) n) whole (after ++ drop room whole)) size (leaves_listed said right.value refl);
       }

@@ -3,3 +3,4 @@ pub mod Leavings
 pub mod Runs
 pub mod Strange
 pub mod Turns
+pub mod Blocks

@@ -29,20 +29,20 @@ module _ {P : Type 0} (M : Meaning P) (a : Lent P) (own : List (Trial P)) (whole
   ran_offer_strange t b r right =
       record {
         same_rows = right.same_rows;
-        stays = right.stays_apart n own;
+        stays = λ reads _. right.stays_apart n own reads;
         leaves = subst (OfferLeaves M a.rows (take a.count own) whole whole) (strange_is a.rows (length a.held) _ n) refl;
       }
 
   -- an audit over strange rows
   pub ran_audit_strange : (r : Result (Option (ℕ × ℕ)) Denial) → AuditRight M a r → Ran M (audit (length a.held)) (over a own whole) (told answer.Audited r) (over a own whole)
-  ran_audit_strange r right = record { same_rows = refl; stays = right.stays_apart n own; leaves = refl }
+  ran_audit_strange r right = record { same_rows = refl; stays = λ reads _. right.stays_apart n own reads; leaves = refl }
 
   -- a list over strange rows
   pub ran_list_strange : (r : Result ℕ Denial) (after : List ℕ) → ListRight M a r after → Ran M (list (length a.held) (length a.list)) (over a own whole) (told answer.Listed r) (over a own whole)
   ran_list_strange r after right =
       record {
         same_rows = refl;
-        stays = right.stays_apart n own;
+        stays = λ reads _. right.stays_apart n own reads;
         leaves = subst (ListLeaves (take a.count own) whole whole) (strange_is a.rows (length a.held) _ n) refl;
       }
 

@@ -2,9 +2,11 @@
 use Rattle.std.specs.Prelude.{ℕ, min, cond, List, map, Option, ◌==◌}
 use Rattle.history.specs.declared.answers.Answer.{Answer}
 use Rattle.history.specs.Calls.{Call}
-use Rattle.history.specs.Calls.Call.{offer, audit, list}
+use Rattle.history.specs.Calls.Call.{offer, feed, audit, list, save}
 use Rattle.replay.specs.declared.asking.Ask.{Ask}
 use Rattle.replay.specs.declared.asking.Ask.TheVariants as ask
+use Rattle.replay.specs.declared.asking.RecordedAsk.{RecordedAsk}
+use Rattle.replay.specs.declared.asking.RecordedAsk.TheVariants as recorded
 use Rattle.replay.specs.declared.asking.Turn.{Turn}
 
 -- how many rows: the archive's own, or else as many strange ones as there are
@@ -16,6 +18,12 @@ abbrev pub call_of : {P : Type 0} → ℕ → ℕ → ℕ → Ask P → Call P
 call_of own other long (ask.Offer rows room t) = offer (lent_of own other rows) (min room long) t
 call_of own other long (ask.Audit rows) = audit (lent_of own other rows)
 call_of own other long (ask.List rows room) = list (lent_of own other rows) (min room long)
+
+-- the same for all five kinds, with so long a block at hand too
+abbrev pub recorded_call_of : {P : Type 0} → ℕ → ℕ → ℕ → ℕ → RecordedAsk P → Call P
+recorded_call_of own other long wide (recorded.Plain x) = call_of own other long x
+recorded_call_of own other long wide (recorded.Feed rows block) = feed (lent_of own other rows) block.now
+recorded_call_of own other long wide (recorded.Save rows number size) = save (lent_of own other rows) number (min size wide)
 
 -- the calls that are asked for, in order, and the answers beside them
 abbrev pub asks_in : {A : Type 0} → List (Turn A) → List A

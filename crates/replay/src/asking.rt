@@ -19,6 +19,22 @@ pub enum Ask<P> {
     },
 }
 
+// The same, and the calls of a log, over a recorded space: a feed with its block, and a save with the number of its block and how
+// much of the block that is lent.
+#[derive(Drop)]
+pub enum RecordedAsk<'a, P> {
+    Plain(Ask<P>),
+    Feed {
+        rows: usize,
+        block: &'a [u8],
+    },
+    Save {
+        rows: usize,
+        number: usize,
+        size: usize,
+    },
+}
+
 // A call that is asked for, with the place for its answer.
 #[derive(Drop)]
 pub struct Turn<A> {

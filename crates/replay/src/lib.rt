@@ -4,8 +4,11 @@
 #![tactic(auto)]
 
 mod asking;
+mod every_kind;
+mod recorded;
 mod replaying;
 mod running;
 
-pub use asking::{Ask, Turn};
+pub use asking::{Ask, RecordedAsk, Turn};
+pub use every_kind::replay_recorded;
 pub use replaying::replay;

@@ -15,7 +15,7 @@ use history::{Answer, Denial, Offered};
 use space::{Space, Trial};
 
 // How many rows are lent where so many are wanted.
-fn lent(own: usize, other: usize, want: usize) -> usize
+pub(crate) fn lent(own: usize, other: usize, want: usize) -> usize
     ensures { result ≡ lent_of own other want }
 {
     if want == own { own } else { want.min(other) }

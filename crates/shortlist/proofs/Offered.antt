@@ -40,6 +40,6 @@ offered_all M n own other long trials asked turns before b held is need o s l a 
       history = right₁.history;
       called = right₁.called ∙ (calls ∙ ap (λ k. map (offer k k) trials) rows);
       answered = right₁.answered;
-      promises = λ reads. (right₁.stands reads).promises;
-      held = λ reads. h ∙ (right₁.stands reads).in_order;
+      promises = λ reads. (right₁.stands reads tt).promises;
+      held = λ reads. h ∙ (right₁.stands reads tt).in_order;
     }

@@ -6,7 +6,7 @@ use Rattle.replay.proofs.running.run_audit.Goals as goal
 
 pub returns-then-lent-own : goal.returns-then-lent-own
 returns-then-lent-own g c list =
-    as_asked _ _ _ _ _ _ _ (ap audit (sym c.if-lent-own.true ∙ c.lent-lent.ensures)) c.audited.ensures (record { same_rows = refl; stays = c.audit.ensures.stays; leaves = refl })
+    as_asked _ _ _ _ _ _ _ (ap audit (sym c.if-lent-own.true ∙ c.lent-lent.ensures)) c.audited.ensures (record { same_rows = refl; stays = λ reads _. c.audit.ensures.stays reads; leaves = refl })
 
 pub returns-else-lent-own : goal.returns-else-lent-own
 returns-else-lent-own g c list =
