@@ -1,6 +1,6 @@
 -- Bytes with zeros after them: how many they are, and what writing over the zeros makes of them.
 use Rattle.std.proofs.Common.{◌≡◌, ℕ, ◌+◌, ◌-◌, ◌≤◌, List, ◌++◌, length, take, drop, replicate, sym, ap, ◌∙◌, arith}
-use Rattle.std.proofs.lemmas.List.{append_assoc, drop_at, drop-drop, drop-replicate, length-append, length-replicate, replicate-append-replicate, take_at}
+use Rattle.std.proofs.lemmas.List.{append_assoc, drop_at, drop-drop, drop-replicate, length-append, length-replicate, length-take-le, replicate-append-replicate, take_at}
 use Rattle.log_block.specs.Block.{filled}
 use Rattle.log_block.specs.Writing.{put_at}
 
@@ -35,3 +35,17 @@ filled_front m n xs l h =
     let count : n - length xs ≡ m - length xs + (n - m) = omega arith in
     let whole : filled n xs ≡ filled m xs ++ replicate (n - m) 0 = ap (λ k. xs ++ replicate k 0) count ∙ (ap (λ zs. xs ++ zs) (sym (replicate-append-replicate (m - length xs) (n - m) 0)) ∙ sym (append_assoc xs (replicate (m - length xs) 0) (replicate (n - m) 0))) in
     ap (take m) whole ∙ take_at (filled m xs) (replicate (n - m) 0) m (filled_long m xs l)
+
+-- bytes that are written in two parts, one right after the other
+pub put_twice : (at : ℕ) (xs ys bs : List ℕ) → at + length xs ≤ length bs → put_at (at + length xs) ys (put_at at xs bs) ≡ put_at at (xs ++ ys) bs
+put_twice at xs ys bs l =
+    let front = take at bs ++ xs in
+    let back = drop (at + length xs) bs in
+    let long : length front ≡ at + length xs = omega (arith, length-append (take at bs) xs, length-take-le at bs (omega arith)) in
+    let put : put_at at xs bs ≡ front ++ back = sym (append_assoc (take at bs) xs back) in
+    let before : take (at + length xs) (front ++ back) ≡ front = take_at front back (at + length xs) long in
+    let past : drop (at + length xs + length ys) (front ++ back) ≡ drop (at + length (xs ++ ys)) bs = sym (drop-drop (length ys) (at + length xs) (front ++ back)) ∙ (ap (drop (length ys)) (drop_at front back (at + length xs) long) ∙ (drop-drop (length ys) (at + length xs) bs ∙ ap (λ k. drop k bs) (omega (arith, length-append xs ys)))) in
+    ap (put_at (at + length xs) ys) put
+    ∙ (ap (λ zs. zs ++ (ys ++ drop (at + length xs + length ys) (front ++ back))) before
+    ∙ (ap (λ zs. front ++ (ys ++ zs)) past
+    ∙ (append_assoc (take at bs) xs (ys ++ drop (at + length (xs ++ ys)) bs) ∙ ap (λ zs. take at bs ++ zs) (sym (append_assoc xs ys (drop (at + length (xs ++ ys)) bs))))))

@@ -1,5 +1,5 @@
 -- A block that is being written, one trial after the other.
-use Rattle.std.proofs.Common.{◌≡◌, ℕ, suc, ◌+◌, ◌*◌, ◌<◌, ◌≤◌, eqb, List, [], ◌∷◌, ◌++◌, map, length, get_or, take, replicate, sym, refl, ap, ◌∙◌, add-mul, arith}
+use Rattle.std.proofs.Common.{◌≡◌, ℕ, ◌+◌, ◌*◌, ◌<◌, ◌≤◌, eqb, List, [], ◌∷◌, ◌++◌, map, length, get_or, take, replicate, sym, refl, ap, ◌∙◌, add-mul, arith}
 use Rattle.std.specs.List.{flat_map, AllByRecursion}
 use Rattle.std.proofs.lemmas.Bool.{cond-true, eq-eqb}
 use Rattle.std.proofs.lemmas.List.{flat_map_more, length-append, map_more}
@@ -38,13 +38,6 @@ trial_put m number count ts i d block place l e long =
 pub longer : (m number count : ℕ) (items : List Item) (x : Item) → length (so_far m number count (items ++ x ∷ [])) ≡ length (so_far m number count items) + length (item_bytes x)
 unfolding so_far
 longer m number count items x = ap length (sym (flat_map_more item_bytes (1 ∷ (count ∷ (m ∷ (0 ∷ four_bytes number)))) items x)) ∙ length-append (so_far m number count items) (item_bytes x)
-
--- the bytes of a trial's record, in front of what lies past them in its point
-pub record_front : (m : ℕ) (t : TrialBytes) (bytes : List ℕ) → Holds m (trial_item m t) → bytes ≡ 1 ∷ ((4 + 4 * m) ∷ (four_bytes t.tag ++ t.point)) → take (6 + 4 * m) bytes ≡ item_bytes (trial_item m t)
-record_front m t bytes h e =
-    let six : 6 + 4 * m ≡ suc (suc (suc (suc (suc (suc (4 * m)))))) = omega arith in
-    let long : 4 + 4 * m ≡ length (four_bytes t.tag ++ take (4 * m) t.point) = omega (arith, h.1) in
-    ap (take (6 + 4 * m)) e ∙ (ap (λ k. take k (1 ∷ ((4 + 4 * m) ∷ (four_bytes t.tag ++ t.point)))) six ∙ ap (λ n. 1 ∷ (n ∷ (four_bytes t.tag ++ take (4 * m) t.point))) long)
 
 -- all records are there
 pub front_all : (m number : ℕ) (items : List Item) (count : ℕ) → count ≡ length items → so_far m number count items ≡ front m number items

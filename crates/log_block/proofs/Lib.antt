@@ -6,6 +6,7 @@ pub mod Encoding
 pub mod Filling
 pub mod Growing
 pub mod Firsts
+pub mod Fitting
 pub mod Headers
 pub mod Never
 pub mod Sealing

@@ -1,10 +1,13 @@
 // One block of a log: 512 bytes that carry trials and notes. It is checked byte by byte, its records are handed out as parts
-// of it, and blocks of trials are written. Of spaces it knows only how many objectives there are, and of archives nothing.
+// of it, and blocks are written, of trials alone or of trials and notes. Of spaces it knows only how many objectives there
+// are, and of archives nothing.
 #![tactic(auto)]
 
 mod checking;
 mod faults;
+mod packing;
 mod parts;
+mod placing;
 mod reading;
 mod sums;
 mod theorems;
@@ -12,6 +15,7 @@ mod writing;
 
 pub use checking::check;
 pub use faults::{BlockFault, Fault, RecordFault, Report};
+pub use packing::write_records;
 pub use parts::{Placed, Record};
 pub use reading::Records;
 pub use sums::seal;

@@ -1,13 +1,13 @@
 // Writing a block of trials.
-ghost use Rattle.std.specs.Prelude.{◌≡◌, ◌+◌, ◌*◌, ◌≤◌, [], ◌∷◌, ◌++◌, map, length, take, Ok, OnOk};
+ghost use Rattle.std.specs.Prelude.{◌≡◌, ◌+◌, ◌*◌, ◌≤◌, map, length, Ok, OnOk};
 ghost use Rattle.std.specs.List.{AllByRecursion};
-ghost use Rattle.word.specs.Word.{four_bytes};
 ghost use Rattle.log_block.specs.Block.{block_of, checked, filled, front};
-ghost use Rattle.log_block.specs.Items.{item_bytes, trial as trial_of};
+ghost use Rattle.log_block.specs.Items.{item_bytes};
 ghost use Rattle.log_block.specs.Theorems.{Holds, placed_from};
-ghost use Rattle.log_block.specs.Writing.{capacity, put_at, so_far, trial_item, write_answer, written_items, written_over};
+ghost use Rattle.log_block.specs.Writing.{capacity, put_at, trial_item, write_answer, written_items, written_over};
 
 use crate::faults::BlockFault;
+use crate::placing::{put_trial, write_header};
 use crate::sums::seal;
 
 // A trial as bytes: its tag, and its point's bytes in front. What lies past the bytes of its objectives is not looked at.
@@ -28,51 +28,18 @@ fn room(objectives: u8) -> usize
     }
 }
 
-// Writes these bytes into the block, from this place on.
-fn put(block: &mut [u8], at: usize, bytes: &[u8])
-    requires { at + length bytes.now ≤ length block.old }
-    ensures { block.new ≡ put_at at bytes.now block.old }
-{
-    block[at..at + bytes.len()].copy_from_slice(bytes);
-}
-
-// The bytes of a trial's record, and what lies past them in its point.
-fn record_bytes(tag: u32, point: &[u8; 24], objectives: u8) -> [u8; 30]
-    requires { objectives ≤ 6 }
-    ensures holds { Holds objectives (trial_of tag (take (4 * objectives) point.now)) }
-    ensures value { result ≡ 1 ∷ ((4 + 4 * objectives) ∷ (four_bytes tag ++ point.now)) }
-{
-    let mut record = [0; 30];
-    record[0] = 1;
-    record[1] = 4 + 4 * objectives;
-    record[2..6].copy_from_slice(&tag.to_be_bytes());
-    record[6..30].copy_from_slice(point);
-    record
-}
-
-// Writes a trial's record into the block, from this place on.
-fn put_trial(block: &mut [u8], place: usize, objectives: u8, trial: &TrialBytes)
+// Writes the record of a trial as bytes into the block, from this place on.
+fn put_bytes(block: &mut [u8], place: usize, objectives: u8, trial: &TrialBytes)
     requires { (objectives ≤ 6) × (place + (6 + 4 * objectives) ≤ length block.old) }
     ensures holds { Holds objectives (trial_item objectives trial.now) }
     ensures after { block.new ≡ put_at place (item_bytes (trial_item objectives trial.now)) block.old }
 {
-    let record = record_bytes(trial.tag, &trial.point, objectives);
-    let (record, _) = record.split_at(6 + 4 * usize::from(objectives));
-    put(block, place, record);
-}
-
-// Writes the header of a block with so many records, and zeros after it.
-fn write_header(block: &mut [u8], objectives: u8, number: u32, count: u8)
-    requires { length block.old ≡ 512 }
-    ensures { block.new ≡ filled 512 (so_far objectives number count []) }
-{
-    block.fill(0);
-    let [a, b, c, d] = number.to_be_bytes();
-    put(block, 0, &[1, count, objectives, 0, a, b, c, d]);
+    let (point, _) = trial.point.split_at(4 * usize::from(objectives));
+    put_trial(block, place, trial.tag, point);
 }
 
 // Writes the header, the trials' records, and zeros after them.
-fn write_records(block: &mut [u8], objectives: u8, number: u32, trials: &[TrialBytes])
+fn write_trials(block: &mut [u8], objectives: u8, number: u32, trials: &[TrialBytes])
     requires { (length block.old ≡ 512) × (length trials.now ≤ capacity objectives) }
     ensures holds { AllByRecursion (Holds objectives) (map (trial_item objectives) trials.now) }
     ensures after { block.new ≡ filled 512 (front objectives number (map (trial_item objectives) trials.now)) }
@@ -80,7 +47,7 @@ fn write_records(block: &mut [u8], objectives: u8, number: u32, trials: &[TrialB
     write_header(block, objectives, number, trials.len() as u8);
     let mut place = 8;
     for trial in trials {
-        put_trial(block, place, objectives, trial);
+        put_bytes(block, place, objectives, trial);
         place += 6 + 4 * usize::from(objectives);
     }
 }
@@ -91,7 +58,7 @@ fn write_block(block: &mut [u8], objectives: u8, number: u32, trials: &[TrialByt
     ensures after { block.new ≡ block_of objectives number (map (trial_item objectives) trials.now) }
     ensures accepted { checked objectives block.new ≡ Ok (placed_from 8 (map (trial_item objectives) trials.now)) }
 {
-    write_records(block, objectives, number, trials);
+    write_trials(block, objectives, number, trials);
     let _ = seal(block);
 }
 

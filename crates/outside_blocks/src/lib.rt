@@ -3,3 +3,5 @@
 
 #[cfg(test)]
 mod log_blocks;
+#[cfg(test)]
+mod records;

@@ -12,7 +12,7 @@ returns c =
     let number = c.args.number in
     let trials = c.args.trials.now in
     let items = map (trial_item m) trials in
-    let held = c.write_records.ensures.holds in
+    let held = c.write_trials.ensures.holds in
     let room : length (front m number items) ≤ 508 = omega (arith, trials_long m trials held, fits m (length trials) c.requires.1) in
-    let block = c.seal.ensures.after ∙ block_sealed m number items c.write_records.new.block room c.write_records.ensures.after in
+    let block = c.seal.ensures.after ∙ block_sealed m number items c.write_trials.new.block room c.write_trials.ensures.after in
     record { after = block; accepted = ap (checked m) block ∙ reads_back m number items held room }

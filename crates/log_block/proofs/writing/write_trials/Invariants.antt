@@ -3,7 +3,7 @@ use Rattle.std.specs.List.{AllByRecursion}
 use Rattle.log_block.specs.Block.{filled}
 use Rattle.log_block.specs.Theorems.{Holds}
 use Rattle.log_block.specs.Writing.{so_far, trial_item}
-use Rattle.log_block.proofs.writing.write_records.Given as goal
+use Rattle.log_block.proofs.writing.write_trials.Given as goal
 
 abbrev pub invariant-loop-trial : goal.invariant-loop-trial
 invariant-loop-trial l =

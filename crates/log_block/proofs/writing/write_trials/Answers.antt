@@ -9,10 +9,10 @@ use Rattle.log_block.specs.Theorems.{Holds}
 use Rattle.log_block.specs.Writing.{so_far, trial_item}
 use Rattle.log_block.proofs.Growing.{front_all, longer, trial_put}
 use Rattle.log_block.proofs.Capacity.{few, next_fits}
-use Rattle.log_block.proofs.writing.write_records.Goals as goal
+use Rattle.log_block.proofs.writing.write_trials.Goals as goal
 
-pub put_trial-requires : goal.put_trial-requires
-put_trial-requires c =
+pub put_bytes-requires : goal.put_bytes-requires
+put_bytes-requires c =
     let m = c.args.objectives in
     let n = length c.args.trials.now in
     let i = c.loop-trial.trial-index in
@@ -32,12 +32,12 @@ loop-trial-preserved c =
     let d : TrialBytes = record { tag = 0; point = [] } in
     let x = trial_item m (get_or trials i d) in
     let more = map_more (trial_item m) trials i d c.loop-trial-test.true in
-    let held = c.put_trial.ensures.holds in
+    let held = c.put_bytes.ensures.holds in
     let size : length (item_bytes x) ≡ 6 + 4 * m = omega (arith, held.1) in
     let long = ap (λ items. length (so_far m c.args.number count items)) more ∙ longer m c.args.number count (map (trial_item m) (take i trials)) x in (
       omega (arith, c.loop-trial.invariant.0, c.from.ensures, add-mul i 1 (6 + 4 * m)),
       omega (arith, c.loop-trial.invariant.1, c.from.ensures, long, size),
-      c.put_trial.ensures.after ∙ trial_put m c.args.number count trials i d c.loop-trial.block c.loop-trial.place c.loop-trial-test.true c.loop-trial.invariant.2 c.loop-trial.invariant.1,
+      c.put_bytes.ensures.after ∙ trial_put m c.args.number count trials i d c.loop-trial.block c.loop-trial.place c.loop-trial-test.true c.loop-trial.invariant.2 c.loop-trial.invariant.1,
       subst (AllByRecursion (Holds m)) (sym more) (All-push (Holds m) (map (trial_item m) (take i trials)) x c.loop-trial.invariant.3 held),
     )
 

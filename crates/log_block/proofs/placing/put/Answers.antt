@@ -1,6 +1,6 @@
 use Rattle.std.proofs.Common.{◌≡◌, ◌+◌, ◌-◌, ◌++◌, length, take, drop, ap, ◌∙◌, arith}
 use Rattle.std.proofs.lemmas.List.{drop-drop}
-use Rattle.log_block.proofs.writing.put.Goals as goal
+use Rattle.log_block.proofs.placing.put.Goals as goal
 
 pub returns : goal.returns
 returns c =

@@ -1,7 +1,7 @@
 use Rattle.std.proofs.Common.{◌≡◌, [], ◌∷◌, get_or, replicate, ap, ◌∙◌}
 use Rattle.log_block.specs.Writing.{so_far}
 use Rattle.log_block.proofs.Growing.{header_put}
-use Rattle.log_block.proofs.writing.write_header.Goals as goal
+use Rattle.log_block.proofs.placing.write_header.Goals as goal
 
 pub returns : goal.returns
 unfolding so_far
