@@ -1,0 +1,4 @@
+pub mod Splitting
+pub mod Sharing
+pub mod Telling
+pub mod Points
