@@ -45,3 +45,6 @@ fn print_blocks(rt: &HostRuntime, blocks: &[[u8; 512]]) -> anyhow::Result<()> {
     out.flush()?;
     Ok(())
 }
+
+#[cfg(test)]
+mod tests;
