@@ -41,9 +41,13 @@ goes_on l (b ∷ bs) some =
     cc)
     (cases_eq b 10)
 
+-- a text that is not empty has its first line, and then the lines after it
+pub lines_more : (bs : List ℕ) → 0 < length bs → lines bs ≡ first_line bs ∷ lines (after_line bs)
+lines_more bs some = goes_on [] bs (omega arith)
+
 -- a text that is not empty says what its first line says, and then what the lines after it say
 pub said_more : (bs : List ℕ) → 0 < length bs → entries_of bs ≡ entry_of (first_line bs) ∷ entries_of (after_line bs)
-said_more bs some = ap (map entry_of) (goes_on [] bs (omega arith))
+said_more bs some = ap (map entry_of) (lines_more bs some)
 
 -- a byte at least goes with the first line
 after_within : (b : ℕ) (bs : List ℕ) → length (after_line (b ∷ bs)) ≤ length bs

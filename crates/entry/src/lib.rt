@@ -8,9 +8,10 @@ mod outcome;
 mod reading;
 mod text;
 
+pub use fields::without_return;
 pub use outcome::{Entry, Malformed};
 pub use reading::read_entry;
-pub use text::read_entries;
+pub use text::{next_line, read_entries};
 
 #[cfg(test)]
 mod tests;

@@ -21,7 +21,7 @@ fn line_end(text: &[u8]) -> usize
 }
 
 // The first line and what follows its newline; nothing follows where there is none.
-fn next_line(text: &[u8]) -> (&[u8], &[u8])
+pub fn next_line(text: &[u8]) -> (&[u8], &[u8])
     ensures line { result.0.now ≡ first_line text.now }
     ensures rest { result.1.now ≡ after_line text.now }
 {

@@ -1,4 +1,3 @@
-pub mod Splitting
 pub mod Sharing
 pub mod Telling
 pub mod Points

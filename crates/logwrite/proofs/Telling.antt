@@ -19,7 +19,7 @@ use Rattle.logwrite.specs.declared.saying.Unsaid.{Unsaid}
 use Rattle.logwrite.specs.Lines.{given, item_from, item_of_line, note_of, told, trials_read}
 use Rattle.logwrite.proofs.Points.{entry_alone, note_alone}
 use Rattle.logwrite.proofs.Sharing.{Alone}
-use Rattle.logwrite.proofs.Splitting.{lines_more}
+use Rattle.entry.proofs.Newlines.{lines_more}
 
 -- fields of which the first is the word say no entry
 no_entry : (fs : List (List ℕ)) → trials_of (entry_of_fields (codes "note" ∷ fs) ∷ []) ≡ []

@@ -1,34 +1,17 @@
 // The lines of a text, and what each gives.
-ghost use Rattle.std.specs.Prelude.{◌≡◌, map, IfOk, ◌==◌};
-ghost use Rattle.std.specs.List.{flat_map, position};
+ghost use Rattle.std.specs.Prelude.{◌≡◌, map, IfOk};
+ghost use Rattle.std.specs.List.{flat_map};
 ghost use Rattle.beside.specs.Pair.{recording_of};
 ghost use Rattle.step.specs.Space.{step_meaning, step_recording};
 ghost use Rattle.ratio.specs.Space.{ratio_meaning, ratio_recording};
-ghost use Rattle.entry.specs.Text.{after_line, entries_of, first_line, lines};
+ghost use Rattle.entry.specs.Text.{entries_of, lines};
 ghost use Rattle.logger.specs.Logger.{logger_bytes, trials_of};
 ghost use Rattle.logwrite.specs.Lines.{given, item_of_line, told, trials_read};
 
 use crate::saying::{Line, Unsaid, read_line};
+use entry::next_line;
 use logger::LoggerSpace;
 use std::alloc::{AllocError, Global};
-
-// Where the first newline is, if there is one.
-fn newline(text: &[u8]) -> Option<usize>
-    ensures { result ≡ position (λ b. b == 10) text.now }
-{
-    text.iter().position(|b| *b == b'\n')
-}
-
-// The first line and what follows its newline; nothing follows where there is none.
-fn next_line(text: &[u8]) -> (&[u8], &[u8])
-    ensures line { result.0.now ≡ first_line text.now }
-    ensures rest { result.1.now ≡ after_line text.now }
-{
-    match newline(text) {
-        Some(end) => (&text[..end], &text[end + 1..]),
-        None => (text, &[]),
-    }
-}
 
 // What each line of a text gives, in their order; a line that gives nothing does not stop the others.
 pub(crate) fn read_lines<'t>(

@@ -4,11 +4,11 @@ ghost use Rattle.std.specs.Option.{option_map};
 ghost use Rattle.beside.specs.Pair.{recording_of};
 ghost use Rattle.step.specs.Space.{step_meaning, step_recording};
 ghost use Rattle.ratio.specs.Space.{ratio_meaning, ratio_recording};
-ghost use Rattle.entry.specs.Line.{entry_of, without_return};
+ghost use Rattle.entry.specs.Line.{entry_of};
 ghost use Rattle.logger.specs.Logger.{logger_bytes, trials_of};
 ghost use Rattle.logwrite.specs.Lines.{entry_item, given, item_of_line, line_item, note_of, told, trials_read};
 
-use entry::{Entry, Malformed, read_entry};
+use entry::{Entry, Malformed, read_entry, without_return};
 use logger::{LoggerSpace, trial_of};
 use space::point_bytes;
 use std::fmt;
@@ -41,16 +41,6 @@ impl fmt::Display for Unsaid {
                 "a note of at most {LONGEST_NOTE} bytes wanted, {count} found"
             ),
         }
-    }
-}
-
-// The line without a carriage return at its end, which text from some systems has.
-fn without_return(line: &[u8]) -> &[u8]
-    ensures { result.now ≡ without_return line.now }
-{
-    match line {
-        [text @ .., b'\r'] => text,
-        _ => line,
     }
 }
 
