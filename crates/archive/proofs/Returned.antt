@@ -19,6 +19,7 @@ use Rattle.history.specs.Calls.{Event, answers, begun, ◌▸◌}
 use Rattle.history.specs.Calls.Call.{feed}
 use Rattle.history.specs.Checks.{making_denial}
 use Rattle.history.specs.Feeding.{all_entered}
+use Rattle.history.specs.RoundTrip.{RecordedLaws}
 use Rattle.history.specs.Saving.{block_count, in_block, per_block, saved_blocks}
 use Rattle.history.specs.Stands.{Stands}
 use Rattle.history.specs.State.{state}
@@ -122,12 +123,12 @@ few_granted n =
     (λ e. cond_both (ltb 4096 n) _ _ (λ d. d ≡ None → n ≤ 4096) (λ l g. cc) (λ l g. ltb-false 4096 n l))
 
 -- the blocks of a history's members are brought back
-brought_back : {P : Type 0} (M : Meaning P) (R : Recording P) (blocks : List (List ℕ)) (fed : Fed) (b : Lent P) → FedAll M (read_point R) blocks fed b → BringsBack M R blocks fed b
-brought_back M R blocks fed b all laws reads h tags enough saved =
+brought_back : {P : Type 0} (M : Meaning P) (R : Recording P) (blocks : List (List ℕ)) (fed : Fed) (b : Lent P) → RecordedLaws M R → FedAll M (read_point R) blocks fed b → BringsBack M R blocks fed b
+brought_back M R blocks fed b laws all reads h savable enough saved =
     let S = all.stands in
     let k = all.history in
     let n = length (state M reads h).members in
-    let back = round_trip M R laws reads h tags k (record {
+    let back = round_trip M R laws reads h savable k (record {
       truthful = S.truthful;
       enough = omega (arith, enough, S.made);
       feeds = all.called ∙ ap (λ n. map (feed n) blocks) S.made ∙ ap (map (feed k.rows)) saved;
@@ -140,8 +141,8 @@ brought_back M R blocks fed b all laws reads h tags enough saved =
       all.told ∙ ap capped_fed entered ∙ ap all_entered (capped_same n (omega (arith, enough, few, S.made))),
     )
 
-pub restored_right : {P : Type 0} (M : Meaning P) (R : Recording P) (blocks : List (List ℕ)) (fed : Fed) (b : Lent P) → FedAll M (read_point R) blocks fed b → RestoreRight M R blocks fed b
-restored_right M R blocks fed b all = record { fed_all = all; brings_back = brought_back M R blocks fed b all }
+pub restored_right : {P : Type 0} (M : Meaning P) (R : Recording P) (blocks : List (List ℕ)) (fed : Fed) (b : Lent P) → RecordedLaws M R → FedAll M (read_point R) blocks fed b → RestoreRight M R blocks fed b
+restored_right M R blocks fed b laws all = record { fed_all = all; brings_back = brought_back M R blocks fed b laws all }
 
 -- the making is granted, and no block is at fault
 pub no_fault : {P : Type 0} (M : Meaning P) (rows m : ℕ) (blocks : List (List ℕ)) → m ≡ M.objectives → making_denial rows ≡ None → None ≡ first_at_fault m 0 blocks → restore_fault M rows blocks ≡ None

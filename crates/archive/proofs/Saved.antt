@@ -1,10 +1,10 @@
 -- What holds of a save, by its checks and by the part of the members that is written.
-use Rattle.std.proofs.Common.{◌≡◌, ℕ, ◌+◌, ◌-◌, ◌*◌, ◌/◌, ◌<◌, ◌≤◌, min, cond, not, eqb, leb, List, map, length, take, drop, Ok, Err, Result, sym, refl, ap, ◌∙◌, le-div_iff_mul-le, le-leb, length-drop, length-take, arith}
+use Rattle.std.proofs.Common.{◌≡◌, ℕ, ◌+◌, ◌-◌, ◌*◌, ◌/◌, ◌<◌, ◌≤◌, min, true, false, cond, not, eqb, leb, List, map, length, take, drop, is_ok, Ok, Err, Result, sym, refl, ap, ◌∙◌, le-div_iff_mul-le, le-leb, length-drop, length-take, arith}
 use native.Mathlib.Nat.{div-le_self}
 use Rattle.std.proofs.lemmas.List.{take_all}
-use Rattle.std.proofs.lemmas.Bool.{cond_both, cond-true, cond-false, eq-eqb, lt-leb, ne_eqb, not_from_false, not_from_true}
+use Rattle.std.proofs.lemmas.Bool.{false≢true, cond_both, cond-true, cond-false, eq-eqb, lt-leb, ne_eqb, not_from_false, not_from_true}
 use Rattle.space.specs.Meaning.{Meaning, Lawful}
-use Rattle.space.specs.Recording.{Recording}
+use Rattle.space.specs.Recording.{Recording, WritableIfAdmitted}
 use Rattle.space.specs.declared.tagged.Trial.{Trial}
 use Rattle.log_block.specs.declared.writing.TrialBytes.{TrialBytes}
 use Rattle.log_block.specs.Block.{block_of}
@@ -15,6 +15,7 @@ use Rattle.history.specs.declared.denials.Denial.{Denial}
 use Rattle.history.specs.declared.denials.Denial.TheVariants.{NoSuchBlock, WrongLength}
 use Rattle.history.specs.Answers.{save_answer, told}
 use Rattle.history.specs.Calls.Call.{save}
+use Rattle.history.specs.Lists.{EachIn}
 use Rattle.history.specs.Saving.{block_count, in_block, item_for, part, per_block, saved_block}
 use Rattle.archive.specs.Lent.{Lent, members}
 use Rattle.archive.specs.Saving.{SaveRight, saved_over}
@@ -78,12 +79,13 @@ module _ (rows lent number size : ℕ) where
       save_granted n l same = ap (λ k. Ok k) same ∙ sym (whole_saved ∙ cond-false (leb (block_count (per_block M) (length ms)) number) _ _ (lt-leb (block_count (per_block M) (length ms)) number l))
 
 module _ {P : Type 0} (M : Meaning P) (R : Recording P) (L : Lawful M) (number : ℕ) (a : Lent P) (before : List ℕ) where
-  pub save_right : (r : Result ℕ Denial) (after : List ℕ) → r ≡ save_answer M a.rows (members a) (length a.held) number (length before) → after ≡ saved_over M R (members a) number before r → SaveRight M R number a before r after
-  save_right r after e block =
+  pub save_right : (r : Result ℕ Denial) (after : List ℕ) → r ≡ save_answer M a.rows (members a) (length a.held) number (length before) → after ≡ saved_over M R (members a) number before r → (is_ok r ≡ true → EachIn (part (per_block M) (members a) number) (λ r. WritableIfAdmitted M R r.point)) → SaveRight M R number a before r after
+  save_right r after e block writable =
       let n = length before in
       record {
         value = e;
         block = block;
+        writable = writable;
         stays = idle_stays M L a.rows a.count a.held (save (length a.held) number n) (told answer.Saved r) (λ reads. ap (told answer.Saved) e) (λ reads. refl);
         stays_apart = λ other held. idle_stays M L a.rows a.count held (save (length a.held) number n) (told answer.Saved r) (λ reads. ap (told answer.Saved) (e ∙ strange a.rows (length a.held) (saved a.rows (length a.held) number n (per_block M) (length (members a))) (saved a.rows (length a.held) number n (per_block M) (length (take a.count held))) other)) (λ reads. refl);
       }
@@ -92,3 +94,7 @@ module _ {P : Type 0} (M : Meaning P) (R : Recording P) (L : Lawful M) (number :
   pub block_saved : (n : ℕ) (after : List ℕ) (ms : List (Trial P)) → ms ≡ part (per_block M) (members a) number → after ≡ block_of M.objectives number (map (item_for R) ms) → after ≡ saved_over M R (members a) number before (Ok n)
   unfolding saved_block
   block_saved n after ms same e = e ∙ ap (λ l. block_of M.objectives number (map (item_for R) l)) same
+
+-- a denied save writes nothing
+pub nothing_written : {A : Type 0} → false ≡ true → A
+nothing_written e = absurd (false≢true e)

@@ -10,7 +10,7 @@ use Rattle.history.specs.Calls.{History, calls, answers}
 use Rattle.history.specs.Calls.Call.{feed}
 use Rattle.history.specs.Checks.{making_denial}
 use Rattle.history.specs.Feeding.{all_entered}
-use Rattle.history.specs.RoundTrip.{RecordedLaws, TagsFit}
+use Rattle.history.specs.RoundTrip.{Savable}
 use Rattle.history.specs.Saving.{saved_blocks}
 use Rattle.history.specs.Stands.{Stands}
 use Rattle.history.specs.State.{state}
@@ -51,11 +51,11 @@ pub record FedAll {P : Type 0} (M : Meaning P) (reads : List ℕ → P) (blocks 
   pub stands : Stands M reads history b.rows b.count b.held
   pub told : fed ≡ capped_fed (all_fed (answers history))
 
--- where these are the blocks of what a history made of its trials, and there are rows enough, the archive has the same members
--- in the same order, they are the same blocks, and what was told is that all of them entered
+-- where these are the blocks of what a history made of its trials, which can be saved, and there are rows enough, the archive has
+-- the same members in the same order, they are the same blocks, and what was told is that all of them entered
 abbrev pub BringsBack : {P : Type 0} → Meaning P → Recording P → List (List ℕ) → told.Fed → Lent P → Type 0
 BringsBack {P} M R blocks fed b =
-    RecordedLaws M R → (reads : List ℕ → P) (h : History P) → TagsFit (state M reads h).members → length (state M reads h).members ≤ b.rows → blocks ≡ saved_blocks M R (state M reads h).members →
+    (reads : List ℕ → P) (h : History P) → Savable M R (state M reads h).members → length (state M reads h).members ≤ b.rows → blocks ≡ saved_blocks M R (state M reads h).members →
     (members b ≡ (state M reads h).members) × (saved_blocks M R (members b) ≡ blocks) × (fed ≡ all_entered (length (state M reads h).members))
 
 -- what holds of every restore that is not refused: b is the archive with its rows

@@ -1,6 +1,6 @@
 // Restore: a fresh archive from saved blocks.
 ghost use Rattle.std.specs.Prelude.{◌≡◌, ◌<◌, [], map, length, Some, None, MatchResult, slice_index_or};
-ghost use Rattle.space.specs.Recording.{read_point};
+ghost use Rattle.space.specs.Recording.{FourEach, read_point};
 ghost use Rattle.history.specs.Answers.{told_feed};
 ghost use Rattle.history.specs.Theorems.{RoundTrip};
 ghost use Rattle.archive.specs.Feeding.{FeedRight};
@@ -36,6 +36,14 @@ pub enum RestoreFault {
 pub struct Unrestored<S> {
     pub space: S,
     pub fault: RestoreFault,
+}
+
+// How many objectives a recorded space has, as a block says it.
+fn objectives_of<S: Recorded>(space: &S) -> u8
+    ensures value { result ≡ (S.Space.meaning space.now).objectives }
+    ensures four_each { FourEach (S.Space.meaning space.now) (S.Recorded.recording space.now) }
+{
+    (space.width() / 4) as u8
 }
 
 // The first of these blocks that is at fault.
@@ -100,7 +108,7 @@ fn restore_all<S: Recorded>(
     ensures value { MatchResult result (λ r. (restore_fault (S.Space.meaning space) (length rows.old) (map (λ b. b.now) blocks.now) ≡ None) × (r.archive.space ≡ space) × RestoreRight (S.Space.meaning space) (S.Recorded.recording space) (map (λ b. b.now) blocks.now) r.fed (lending r.archive rows.new [])) (λ e. (restore_fault (S.Space.meaning space) (length rows.old) (map (λ b. b.now) blocks.now) ≡ Some e.fault) × (e.space ≡ space) × (rows.new ≡ rows.old)) }
     ensures law { RoundTrip S.Point }
 {
-    let objectives = space.objectives() as u8;
+    let objectives = objectives_of(&space);
     let mut archive = match Archive::new(space, rows) {
         Ok(archive) => archive,
         Err(Refused { space, denial }) => {

@@ -1,9 +1,10 @@
 // Save: the members as blocks of a log.
 ghost use Rattle.std.specs.Prelude.{◌≡◌, ◌+◌, ◌*◌, ◌^◌, ◌<◌, ◌≤◌, List, [], map, length, take};
-ghost use Rattle.space.specs.Recording.{FourEach};
+ghost use Rattle.space.specs.Recording.{FourEach, WritableIfAdmitted};
 ghost use Rattle.space.specs.declared.tagged.Trial.{Trial as TrialOf};
 ghost use Rattle.log_block.specs.Block.{block_of};
 ghost use Rattle.log_block.specs.Writing.{trial_item, written_over};
+ghost use Rattle.history.specs.Lists.{EachIn};
 ghost use Rattle.history.specs.Saving.{block_count, item_for, part, per_block};
 ghost use Rattle.archive.specs.Lent.{lending};
 ghost use Rattle.archive.specs.Saving.{SaveRight, blocks_of};
@@ -46,7 +47,8 @@ fn part<P: Copy>(members: &[Trial<P>], per_block: usize, number: usize) -> &[Tri
 // A trial as bytes.
 fn trial_bytes<S: Recorded>(space: &S, trial: &Trial<S::Point>) -> TrialBytes
     requires { FourEach (S.Space.meaning space.now) (S.Recorded.recording space.now) }
-    ensures { trial_item (S.Space.meaning space.now).objectives result ≡ item_for (S.Recorded.recording space.now) trial.now }
+    ensures value { trial_item (S.Space.meaning space.now).objectives result ≡ item_for (S.Recorded.recording space.now) trial.now }
+    ensures writable { WritableIfAdmitted (S.Space.meaning space.now) (S.Recorded.recording space.now) trial.now.point }
 {
     TrialBytes {
         tag: trial.tag,
@@ -58,7 +60,8 @@ fn trial_bytes<S: Recorded>(space: &S, trial: &Trial<S::Point>) -> TrialBytes
 fn part_bytes<S: Recorded>(space: &S, part: &[Trial<S::Point>]) -> [TrialBytes; 50]
     requires four_each { FourEach (S.Space.meaning space.now) (S.Recorded.recording space.now) }
     requires few { length part.now ≤ 50 }
-    ensures { map (trial_item (S.Space.meaning space.now).objectives) (take (length part.now) result) ≡ map (item_for (S.Recorded.recording space.now)) part.now }
+    ensures value { map (trial_item (S.Space.meaning space.now).objectives) (take (length part.now) result) ≡ map (item_for (S.Recorded.recording space.now)) part.now }
+    ensures writable { EachIn part.now (λ r. WritableIfAdmitted (S.Space.meaning space.now) (S.Recorded.recording space.now) r.point) }
 {
     let mut bytes = [TrialBytes {
         tag: 0,
@@ -83,7 +86,8 @@ fn write_part<S: Recorded>(space: &S, part: &[Trial<S::Point>], number: usize, b
     requires four_each { FourEach (S.Space.meaning space.now) (S.Recorded.recording space.now) }
     requires few { length part.now ≤ per_block (S.Space.meaning space.now) }
     requires fits { (number < 2 ^ 32) × (length block.old ≡ 512) }
-    ensures { block.new ≡ block_of (S.Space.meaning space.now).objectives number (map (item_for (S.Recorded.recording space.now)) part.now) }
+    ensures after { block.new ≡ block_of (S.Space.meaning space.now).objectives number (map (item_for (S.Recorded.recording space.now)) part.now) }
+    ensures writable { EachIn part.now (λ r. WritableIfAdmitted (S.Space.meaning space.now) (S.Recorded.recording space.now) r.point) }
 {
     let bytes = part_bytes(space, part);
     let (trials, _) = bytes.split_at(part.len());

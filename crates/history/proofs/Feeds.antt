@@ -27,7 +27,7 @@ use Rattle.history.proofs.Pairs.{pairwise_take}
 use Rattle.history.proofs.Steps.{holds}
 use Rattle.history.proofs.Sums.{members_of_all}
 use Rattle.history.proofs.Entering.{all_enter}
-use Rattle.history.proofs.Returning.{Savable, enough_blocks, some_room, part_savable, found, found_passes, found_are}
+use Rattle.history.proofs.Returning.{Saves, enough_blocks, some_room, part_savable, found, found_passes, found_are}
 
 -- what comes last of a count comes first the other way round
 newest : {A : Type 0} (f : ℕ → A) (j : ℕ) → reverse (map f (range_with_len 0 (suc j))) ≡ f j ∷ reverse (map f (range_with_len 0 j))
@@ -36,7 +36,7 @@ newest f j =
     ∙ reverse-append (map f (range_with_len 0 j)) (f j ∷ [])
 
 module _ {P : Type 0} (M : Meaning P) (R : Recording P) (laws : RecordedLaws M R) (rows : ℕ) (ms : List (Trial P))
-    (savable : AllByRecursion (Savable M) ms) (apart : Pairwise (Apart M) ms) (fits : length ms ≤ rows) where
+    (savable : AllByRecursion (Saves M R) ms) (apart : Pairwise (Apart M) ms) (fits : length ms ≤ rows) where
   -- the members before block k
   abbrev front : ℕ → List (Trial P)
   front k = take (k * per_block M) ms
@@ -56,7 +56,7 @@ module _ {P : Type 0} (M : Meaning P) (R : Recording P) (laws : RecordedLaws M R
       let are = found_are M R laws ms savable k in
       let passes = found_passes M R laws ms savable k rows in
       let joins : front k ++ map (λ x. x.read) xs ≡ front (suc k) = ap (λ l. front k ++ l) are ∙ sym (take-add (k * q) q ms) ∙ ap (λ n. take n ms) (sym (suc-mul k q)) in
-      let good : AllByRecursion (λ t. on_grid M t ≡ true) (map (λ x. x.read) xs) = subst (AllByRecursion (λ t. on_grid M t ≡ true)) (sym are) (All-weaker (Savable M) (λ t. on_grid M t ≡ true) (λ t s. s.0) (part q ms k) (part_savable M R laws ms savable k)) in
+      let good : AllByRecursion (λ t. on_grid M t ≡ true) (map (λ x. x.read) xs) = subst (AllByRecursion (λ t. on_grid M t ≡ true)) (sym are) (All-weaker (Saves M R) (λ t. on_grid M t ≡ true) (λ t s. s.0) (part q ms k) (part_savable M R laws ms savable k)) in
       let long : length xs ≡ in_block q (length ms) k = sym (length-map xs (λ x. x.read)) ∙ ap length are ∙ length-take q (drop (k * q) ms) ∙ ap (min q) (length-drop (k * q) ms) in
       let room : length (front k) + length xs ≤ rows = omega (arith, length-append (front k) (map (λ x. x.read) xs), length-map xs (λ x. x.read), ap length joins, length-take (suc k * q) ms) in
       let all = all_enter M laws.lawful rows (front k) xs (subst (Pairwise (Apart M)) (sym joins) (pairwise_take (Apart M) (suc k * q) ms apart)) good room in (
@@ -95,10 +95,10 @@ module _ {P : Type 0} (M : Meaning P) (R : Recording P) (laws : RecordedLaws M R
       )
 
 pub round_trip : {P : Type 0} → RoundTrip P
-round_trip M R laws reads h tags k back =
+round_trip M R laws reads h saved k back =
     let ms = (state M reads h).members in
     let S = (holds M laws.lawful h.rows reads h.events).sound in
-    let savable : AllByRecursion (Savable M) ms = each_all (Savable M) ms (λ r m. (S.admitted r (S.own r m), tags r m)) in
+    let savable : AllByRecursion (Saves M R) ms = each_all (Saves M R) ms (λ r m. let on = S.admitted r (S.own r m) in (on, (saved.tags r m, saved.writable r m on))) in
     let n = block_count (per_block M) (length ms) in
     let fed : ℕ → Call _ = λ i. feed k.rows (saved_block M R ms i) in
     let calls : map (λ e. e.call) k.events ≡ reverse (map fed (range_with_len 0 n)) = sym (reverse-reverse (map (λ e. e.call) k.events)) ∙ ap reverse (back.feeds ∙ map-map (feed k.rows) (saved_block M R ms) (range_with_len 0 n)) in

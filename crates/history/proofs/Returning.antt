@@ -27,9 +27,9 @@ enough_blocks q n l =
     (λ e. let z = eqb-true n 0 e in omega arith)
     (λ e. omega (arith, div-add-mod' (n + (q - 1)) q, mod-lt (n + (q - 1)) l))
 
--- a member that can be saved: it is on the grid, and its tag has 32 bits
-abbrev pub Savable : {P : Type 0} → Meaning P → Trial P → Type 0
-Savable M r = (on_grid M r ≡ true) × (r.tag < 2 ^ 32)
+-- a member that can be saved: it is on the grid, its tag has 32 bits, and its point is writable
+abbrev pub Saves : {P : Type 0} → Meaning P → Recording P → Trial P → Type 0
+Saves M R r = (on_grid M r ≡ true) × ((r.tag < 2 ^ 32) × (R.writable r.point ≡ true))
 
 -- what a feed finds in block k of the members
 pub found : {P : Type 0} → Meaning P → Recording P → List (Trial P) → ℕ → List (TrialAt P)
@@ -39,24 +39,24 @@ module _ {P : Type 0} (M : Meaning P) (R : Recording P) (laws : RecordedLaws M R
   pub some_room : 1 ≤ per_block M
   some_room = let few = laws.lawful.few.1 in (le-div_iff_mul-le {k = 6 + 4 * M.objectives} {x = 1} {y = 500} (omega arith)).1 (omega arith)
 
-  -- a point on the grid reads back
-  read_back : (p : P) → M.admits p ≡ true → read_point R (R.writes p) ≡ p
+  -- a writable point reads back
+  read_back : (p : P) → R.writable p ≡ true → read_point R (R.writes p) ≡ p
   read_back p a =
       cond-true (as_wide R (R.writes p)) (R.reads (R.writes p)) (blank_point R) (eq-eqb (length (R.writes p)) R.width (laws.faithful.long p))
-      ∙ laws.faithful.reads_back p (laws.writable p a)
+      ∙ laws.faithful.reads_back p a
 
   -- the records of members read as these members
-  items_read : (at : ℕ) (rs : List (Trial P)) → AllByRecursion (Savable M) rs → map (λ x. x.read) (trials_of (read_point R) (placed_from at (map (item_for R) rs))) ≡ rs
+  items_read : (at : ℕ) (rs : List (Trial P)) → AllByRecursion (Saves M R) rs → map (λ x. x.read) (trials_of (read_point R) (placed_from at (map (item_for R) rs))) ≡ rs
   items_read at [] s = refl
   items_read at (r ∷ rs) s =
       let items = placed_from (at + item_size (item_for R r)) (map (item_for R) rs) in
-      ap (λ p. record { point = p; tag = r.tag } ∷ map (λ x. x.read) (trials_of (read_point R) items)) (read_back r.point s.0.0)
+      ap (λ p. record { point = p; tag = r.tag } ∷ map (λ x. x.read) (trials_of (read_point R) items)) (read_back r.point s.0.1.1)
       ∙ ap (λ l. r ∷ l) (items_read (at + item_size (item_for R r)) rs s.1)
 
-  items_held : (rs : List (Trial P)) → AllByRecursion (Savable M) rs → AllByRecursion (Holds M.objectives) (map (item_for R) rs)
+  items_held : (rs : List (Trial P)) → AllByRecursion (Saves M R) rs → AllByRecursion (Holds M.objectives) (map (item_for R) rs)
   items_held rs s =
       All-map (Holds M.objectives) (item_for R) rs
-      (All-weaker (Savable M) (λ r. Holds M.objectives (item_for R r)) (λ r h. (h.1, laws.faithful.long r.point ∙ laws.four_each)) rs s)
+      (All-weaker (Saves M R) (λ r. Holds M.objectives (item_for R r)) (λ r h. (h.1.0, laws.faithful.long r.point ∙ laws.four_each)) rs s)
 
   items_long : (rs : List (Trial P)) → length (flat_map item_bytes (map (item_for R) rs)) ≡ (6 + 4 * M.objectives) * length rs
   items_long [] = omega arith
@@ -69,10 +69,10 @@ module _ {P : Type 0} (M : Meaning P) (R : Recording P) (laws : RecordedLaws M R
       let size = 6 + 4 * M.objectives in
       omega (arith, items_long rs, mul-le-mul_left size l, mul-div-le 500 size)
 
-  module _ (ms : List (Trial P)) (savable : AllByRecursion (Savable M) ms) (k : ℕ) where
-    pub part_savable : AllByRecursion (Savable M) (part (per_block M) ms k)
+  module _ (ms : List (Trial P)) (savable : AllByRecursion (Saves M R) ms) (k : ℕ) where
+    pub part_savable : AllByRecursion (Saves M R) (part (per_block M) ms k)
     part_savable =
-        All-take (Savable M) (per_block M) (drop (k * per_block M) ms) (All-drop (Savable M) (k * per_block M) ms savable)
+        All-take (Saves M R) (per_block M) (drop (k * per_block M) ms) (All-drop (Saves M R) (k * per_block M) ms savable)
 
     -- the trials of block k are the members of that part
     pub found_are : map (λ x. x.read) (found M R ms k) ≡ part (per_block M) ms k

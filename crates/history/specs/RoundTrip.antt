@@ -13,16 +13,17 @@ use Rattle.history.specs.State.{state}
 use Rattle.history.specs.Feeding.{all_entered}
 use Rattle.history.specs.Truthful.{Truthful}
 
--- a recorded space: its meaning keeps the laws, its bytes are faithful, and the two belong together
+-- a recorded space: its meaning keeps the laws, its bytes are faithful, and a point takes four bytes an objective
 pub record RecordedLaws {P : Type 0} (M : Meaning P) (R : Recording P) : Type 0 where
   pub lawful : Lawful M
   pub faithful : Faithful R
   pub four_each : FourEach M R
-  pub writable : (p : P) → WritableIfAdmitted M R p
 
--- the members' tags have 32 bits each
-abbrev pub TagsFit : {P : Type 0} → List (Trial P) → Type 0
-TagsFit members = EachIn members (λ r. r.tag < 2 ^ 32)
+-- the members can be saved: their tags have 32 bits each, and their points, which are admitted, are writable; the functions of a
+-- recorded space promise this of every point that they write
+pub record Savable {P : Type 0} (M : Meaning P) (R : Recording P) (members : List (Trial P)) : Type 0 where
+  pub tags : EachIn members (λ r. r.tag < 2 ^ 32)
+  pub writable : EachIn members (λ r. WritableIfAdmitted M R r.point)
 
 -- the history is truthful, has rows enough, and consists of feeds alone, with its own rows lent, of the blocks of these members in order
 pub record FedBack {P : Type 0} (M : Meaning P) (R : Recording P) (members : List (Trial P)) (k : History P) : Type 0 where

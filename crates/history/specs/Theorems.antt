@@ -16,7 +16,7 @@ use Rattle.history.specs.Truthful.{Truthful}
 use Rattle.history.specs.RowNeed.{all_but, largest, row_need}
 use Rattle.history.specs.Promises.{Promises}
 use Rattle.history.specs.Stands.{Stands}
-use Rattle.history.specs.RoundTrip.{RecordedLaws, FedBack, BroughtBack, TagsFit}
+use Rattle.history.specs.RoundTrip.{RecordedLaws, FedBack, BroughtBack, Savable}
 
 -- every truthful history keeps the promises
 abbrev pub HistoryKeeps : Type 0 → Type 0
@@ -67,5 +67,5 @@ RowNeedIsLeast P =
 -- what one archive's members are saved as, another archive has once it was fed these blocks
 abbrev pub RoundTrip : Type 0 → Type 0
 RoundTrip P =
-    (M : Meaning P) (R : Recording P) → RecordedLaws M R → (reads : List ℕ → P) (h : History P) → TagsFit (state M reads h).members →
+    (M : Meaning P) (R : Recording P) → RecordedLaws M R → (reads : List ℕ → P) (h : History P) → Savable M R (state M reads h).members →
     (k : History P) → FedBack M R (state M reads h).members k → BroughtBack M R (state M reads h).members k

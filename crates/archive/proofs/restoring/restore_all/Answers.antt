@@ -26,8 +26,9 @@ returns-clause-value g c =
     let made = c.in-Ok.ensures.value in
     let blocks = bytes_of c.args.blocks.now in
     let b = lending c.feed_all-fed.new.archive c.feed_all-fed.new.rows [] in (
-      no_fault (g.S.Space.meaning s) (length c.args.rows.now) c.objectives-objectives.result blocks c.objectives-objectives.ensures made.0 c.in_default.ensures,
+      no_fault (g.S.Space.meaning s) (length c.args.rows.now) c.objectives_of-objectives.result blocks c.objectives_of-objectives.ensures.value made.0 c.in_default.ensures,
       c.feed_all-fed.ensures.space ∙ made.1,
       restored_right (g.S.Space.meaning s) (g.S.Recorded.recording s) blocks c.feed_all-fed.result b
+          (record { lawful = g.met.S.Space.lawful s; faithful = g.met.S.Recorded.faithful s; four_each = c.objectives_of-objectives.ensures.four_each })
           (subst (λ s. FedAll (g.S.Space.meaning s) (read_point (g.S.Recorded.recording s)) blocks c.feed_all-fed.result b) made.1 c.feed_all-fed.ensures.right),
     )

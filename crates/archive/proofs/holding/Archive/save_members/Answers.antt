@@ -1,19 +1,21 @@
-use Rattle.std.proofs.Common.{◌≡◌, ◌*◌, ◌≤◌, [], length, take, refl, ap, ◌∙◌, arith, rules}
+use Rattle.std.proofs.Common.{◌≡◌, ◌*◌, ◌≤◌, [], length, take, refl, ap, ◌∙◌, subst, arith, rules}
 use Rattle.std.proofs.lemmas.List.{length-take-le}
+use Rattle.space.specs.Recording.{WritableIfAdmitted}
+use Rattle.history.specs.Lists.{EachIn}
 use Rattle.history.specs.Saving.{block_count, part, per_block}
 use Rattle.archive.specs.Lent.{lending}
 use Rattle.archive.proofs.Idle.{strange_is}
-use Rattle.archive.proofs.Saved.{block_begins, block_saved, blocks_few, part_long, save_granted, save_past, save_right, save_wrong, some_per_block}
+use Rattle.archive.proofs.Saved.{block_begins, block_saved, blocks_few, nothing_written, part_long, save_granted, save_past, save_right, save_wrong, some_per_block}
 use Rattle.archive.proofs.holding.Archive.save_members.Goals as goal
 
 pub returns-then-rows-self : goal.returns-then-rows-self
-returns-then-rows-self g c = save_right _ _ (g.met.S.Space.lawful c.args.self.now.space) _ _ _ _ _ (strange_is _ _ _ c.if-rows-self.true) refl
+returns-then-rows-self g c = save_right _ _ (g.met.S.Space.lawful c.args.self.now.space) _ _ _ _ _ (strange_is _ _ _ c.if-rows-self.true) refl nothing_written
 
 pub returns-then-block-ne512 : goal.returns-then-block-ne512
 returns-then-block-ne512 g c =
     let a = c.args.self.now in
     let rows = c.args.rows.now in
-    save_right _ _ (g.met.S.Space.lawful a.space) _ _ _ _ _ (save_wrong a.rows (length rows) c.args.number (length c.args.block.now) (g.S.Space.meaning a.space) (take a.count rows) c.if-rows-self.false c.if-block-ne512.true) refl
+    save_right _ _ (g.met.S.Space.lawful a.space) _ _ _ _ _ (save_wrong a.rows (length rows) c.args.number (length c.args.block.now) (g.S.Space.meaning a.space) (take a.count rows) c.if-rows-self.false c.if-block-ne512.true) refl nothing_written
 
 pub returns-then-blocks-number : goal.returns-then-blocks-number
 returns-then-blocks-number g c =
@@ -24,7 +26,7 @@ returns-then-blocks-number g c =
     save_right _ _ (g.met.S.Space.lawful a.space) _ _ _ _ _
     (save_past a.rows (length rows) c.args.number (length c.args.block.now) M (take a.count rows) c.if-rows-self.false c.if-block-ne512.false
     (omega (arith, c.blocks-2.ensures [], ap (block_count (per_block M)) full, c.if-blocks-number.true)))
-    refl
+    refl nothing_written
 
 pub part-part-requires : goal.part-part-requires
 part-part-requires g c =
@@ -57,4 +59,5 @@ returns g c =
     (save_granted a.rows (length rows) k (length c.args.block.now) M members c.if-rows-self.false c.if-block-ne512.false (length c.part-part.result.now)
     (omega (arith, c.blocks-2.ensures [], ap (block_count (per_block M)) full, c.if-blocks-number.false))
     (ap length written ∙ part_long (per_block M) members k))
-    (block_saved M (g.S.Recorded.recording a.space) (g.met.S.Space.lawful a.space) k (lending a rows []) c.args.block.now (length c.part-part.result.now) c.write_part.new.block c.part-part.result.now written c.write_part.ensures)
+    (block_saved M (g.S.Recorded.recording a.space) (g.met.S.Space.lawful a.space) k (lending a rows []) c.args.block.now (length c.part-part.result.now) c.write_part.new.block c.part-part.result.now written c.write_part.ensures.after)
+    (λ _. subst (λ ms. EachIn ms (λ r. WritableIfAdmitted M (g.S.Recorded.recording a.space) r.point)) written c.write_part.ensures.writable)
