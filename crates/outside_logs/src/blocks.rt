@@ -1,4 +1,4 @@
-// Blocks of a log for the tests: their bytes are made here, and not by what is tried.
+// Blocks of a log for the tests: their points are made of bare figures, and not by a space.
 use log_block::{TrialBytes, seal, write};
 
 // A trial of two figures as bytes.

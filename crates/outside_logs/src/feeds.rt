@@ -1,12 +1,12 @@
 // Feeds that are not refused: what each tells, and what the rows hold then.
 use crate::blocks::{block_of, changed, four, trial};
-use crate::squares::{at, holding, square, tags};
+use crate::squares::{at, holding, same_rows, square, tags};
 use archive::Archive;
 use history::{DeniedTrial, Fed, FeedFault};
 use log_block::Report;
 use std::test::Fail;
 
-// The answer to a feed; the places of denied trials come with why they are denied.
+// The answer to a feed that is not refused.
 fn told(
     entered: usize,
     passed: usize,
@@ -82,13 +82,14 @@ fn first_denied_trials(rt: HostRuntime) -> Result<(), Fail> {
 
 #[test]
 fn displaced_in_the_same_block(rt: HostRuntime) -> Result<(), Fail> {
-    let block = block_of(&[trial(1, 5, 5), trial(2, 1, 9), trial(3, 6, 9)]);
+    let block = block_of(&[trial(1, 5, 5), trial(2, 1, 9), trial(3, 6, 6)]);
     let mut rows = [at(0, 0, 0); 3];
     let mut archive = holding(at(6, 9, 0), &mut rows).ok_or("a member")?;
-    assert_eq!(rt; archive.feed(&block, &mut rows), told(3, 0, 0, 2, None));
-    assert_eq!(rt; tags(&archive, &rows), [6, 3, 0, 0]);
-    assert_eq!(rt; archive.feed(&block, &mut rows), told(0, 3, 0, 0, None));
-    assert_eq!(rt; tags(&archive, &rows), [6, 3, 0, 0]);
+    for answer in [told(3, 0, 0, 1, None), told(0, 3, 0, 0, None)] {
+        assert_eq!(rt; archive.feed(&block, &mut rows), answer);
+        assert!(rt; same_rows(&rows, &[at(6, 9, 0), at(2, 1, 9), at(3, 6, 6)]));
+        assert_eq!(rt; archive.count(), 3);
+    }
     Ok(())
 }
 

@@ -133,3 +133,17 @@ fn calls_and_answers(rt: HostRuntime) -> Result<(), Fail> {
     assert!(rt; same_rows(&strange, &[at(99, -5, 123); 3]));
     Ok(())
 }
+
+#[test]
+fn a_replay_over_no_rows(rt: HostRuntime) -> Result<(), Fail> {
+    let space = square(2, 9).ok_or("a space")?;
+    let mut block = [7; 512];
+    let mut turns = [save(0, 0, 512)];
+    match replay_recorded(space, &mut [], &mut [], &mut [], &mut block, &mut turns) {
+        Err(refused) => assert_eq!(rt; refused.denial, Denial::NoRows),
+        Ok(_) => assert!(rt; false),
+    }
+    assert_eq!(rt; turns[0].answer, None);
+    assert!(rt; block == [7; 512]);
+    Ok(())
+}

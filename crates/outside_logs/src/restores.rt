@@ -35,15 +35,32 @@ fn blocks_at_fault(rt: HostRuntime) {
     let torn = torn(four(), 9);
     let tail = changed(four(), &[(507, 1)]);
     let mut rows = [at(6, 0, 8), at(99, -5, 123)];
-    for (blocks, index, fault) in [
-        ([good, torn, tail], 1, Fault::Block(BlockFault::Torn)),
-        ([good, good, tail], 2, Fault::Record(RecordFault::Tail(507))),
-        ([tail, torn, good], 0, Fault::Record(RecordFault::Tail(507))),
+    for (blocks, index, fault, report) in [
+        (
+            [good, torn, tail],
+            1,
+            Fault::Block(BlockFault::Torn),
+            (10, 1, 508),
+        ),
+        (
+            [good, good, tail],
+            2,
+            Fault::Record(RecordFault::Tail(507)),
+            (13, 2, 507),
+        ),
+        (
+            [tail, torn, good],
+            0,
+            Fault::Record(RecordFault::Tail(507)),
+            (13, 2, 507),
+        ),
     ] {
         assert_eq!(rt;
             refused(&mut rows, &[&blocks[0], &blocks[1], &blocks[2]]),
             Some(RestoreFault::Block { index, fault })
         );
+        let told = fault.report();
+        assert_eq!(rt; (told.number, told.layer, told.place), report);
     }
     assert!(rt; same_rows(&rows, &[at(6, 0, 8), at(99, -5, 123)]));
 }
