@@ -1,28 +1,8 @@
--- Each figure computes.
-use Rattle.std.proofs.Common.{refl}
-use Rattle.ratio.specs.Edges.{edge, climb}
-use Rattle.worked.specs.Spaces.{StepFigures, RatioFigures, Figures}
-
-step_figures : StepFigures
-step_figures = record {
-  extent = refl;
-  larger = refl;
-  off = refl;
-  smaller = refl;
-  covered = refl;
-  uncovered = refl;
-  finest = (refl, refl);
-  too_fine = refl;
-}
-
-ratio_figures : RatioFigures
-unfolding edge climb
-ratio_figures = record {
-  edges = refl;
-  boxes = refl;
-  covered = refl;
-  uncovered = refl;
-}
+-- All figures, gathered.
+use Rattle.worked.specs.Figures.{Figures}
+use Rattle.worked.proofs.Spaces.{step_figures, ratio_figures}
+use Rattle.worked.proofs.Archives.{archive_figures}
+use Rattle.worked.proofs.Blocks.{block_figures}
 
 pub figures : Figures
-figures = record { steps = step_figures; ratios = ratio_figures }
+figures = record { steps = step_figures; ratios = ratio_figures; archives = archive_figures; blocks = block_figures }

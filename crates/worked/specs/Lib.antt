@@ -1,1 +1,4 @@
 pub mod Spaces
+pub mod Archives
+pub mod Blocks
+pub mod Figures

@@ -7,7 +7,7 @@ use Rattle.history.specs.Step.{judge}
 use Rattle.history.specs.State.{members_after}
 use Rattle.history.specs.Feeding.{tally}
 use Rattle.history.specs.RowNeed.{product_but, first_largest}
-use Rattle.worked_archives.specs.Archives.{ArchiveFigures}
+use Rattle.worked.specs.Archives.{ArchiveFigures}
 
 -- of one objective nothing is left
 alone : (M : Meaning (List ℤ)) (n : ℕ) → n ≡ 1 → product_but M (first_largest M n) n ≡ 1

@@ -1,3 +1,0 @@
-pub mod Archives
-pub mod Blocks
-pub mod Shown
