@@ -1,0 +1,351 @@
+// The second archive, written from the definitions as plain sets: a trial's box that dominates members' boxes sends these
+// away, within one box a trial that dominates the member takes its place, and a trial whose box a member's equals or dominates
+// is passed over. This file is what is believed; everything else is held against it.
+use crate::blocks::{Fault, Found, read_block, trials_to_a_block, write_block};
+use crate::figures::{Point, Rules, admits, boxes, dominates, worths};
+use std::alloc::{AllocError, Global};
+
+// A trial with its worths, and with its box.
+#[derive(Clone, Copy)]
+pub(crate) struct Member {
+    pub tag: u32,
+    pub point: Point,
+    pub admitted: bool,
+    pub worths: Point,
+    pub boxes: Point,
+}
+
+// What a call answers, in plain numbers.
+#[derive(Clone, Copy, PartialEq, Eq, Debug)]
+pub(crate) enum Told {
+    Judged {
+        verdict: u8,
+        displaced: usize,
+    },
+    Fed {
+        entered: usize,
+        passed: usize,
+        denied: usize,
+        displaced: usize,
+        first: Fault,
+    },
+    Audited(Option<(usize, usize)>),
+    Listed(usize),
+    Saved(usize),
+    Denied(u8),
+    Refused(Fault),
+}
+
+// An answer with what the call writes: tags to the front of the list, and a block.
+#[derive(Drop)]
+pub(crate) struct Reply {
+    pub told: Told,
+    pub tags: Vec<u32>,
+    pub block: Option<Vec<u8>>,
+}
+
+// The rules of its space, how many rows it has, and its members, the eldest first.
+#[derive(Drop)]
+pub(crate) struct Second {
+    heap: Global,
+    rules: Rules,
+    rows: usize,
+    pub members: Vec<Member>,
+}
+
+// A trial with what is said of its point.
+pub(crate) fn member_of(rules: &Rules, tag: u32, point: Point) -> Member {
+    Member {
+        tag,
+        point,
+        admitted: admits(rules, &point),
+        worths: worths(rules, &point),
+        boxes: boxes(rules, &point),
+    }
+}
+
+// No fault.
+pub(crate) fn no_fault() -> Fault {
+    Fault {
+        number: 0,
+        layer: 0,
+        place: 0,
+    }
+}
+
+// Whether two trials may not be members together.
+fn clash(one: &Member, other: &Member) -> bool {
+    one.boxes == other.boxes
+        || dominates(&one.boxes, &other.boxes)
+        || dominates(&other.boxes, &one.boxes)
+}
+
+impl Second {
+    // An archive with no members, or the number of the denial.
+    pub(crate) fn new(heap: Global, rules: Rules, rows: usize) -> Result<Second, u8> {
+        if rows == 0 {
+            return Err(1);
+        }
+        if rows > 4096 {
+            return Err(2);
+        }
+        Ok(Second {
+            heap,
+            rules,
+            rows,
+            members: Vec::new(heap),
+        })
+    }
+
+    // An answer that writes nothing.
+    fn says(&self, told: Told) -> Reply {
+        Reply {
+            told,
+            tags: Vec::new(self.heap),
+            block: None,
+        }
+    }
+
+    // The rows whose members' boxes the trial's box dominates.
+    fn rows_below(&self, trial: &Member) -> Result<Vec<usize>, AllocError> {
+        let mut rows = Vec::new(self.heap);
+        for (row, member) in self.members.iter().enumerate() {
+            if dominates(&trial.boxes, &member.boxes) {
+                rows.push(row)?;
+            }
+        }
+        Ok(rows)
+    }
+
+    // The lowest row whose member has the trial's box and is dominated by the trial, alone; none if there is no such row.
+    fn row_beaten(&self, trial: &Member) -> Result<Vec<usize>, AllocError> {
+        let mut rows = Vec::new(self.heap);
+        for (row, member) in self.members.iter().enumerate() {
+            if member.boxes == trial.boxes && dominates(&trial.worths, &member.worths) {
+                rows.push(row)?;
+                break;
+            }
+        }
+        Ok(rows)
+    }
+
+    // Whether some member's box equals the trial's or dominates it.
+    fn is_shut_out(&self, trial: &Member) -> bool {
+        self.members
+            .iter()
+            .any(|member| member.boxes == trial.boxes || dominates(&member.boxes, &trial.boxes))
+    }
+
+    // The members become those in other rows than these, and the trial after them. Says which tags went.
+    fn trade(&mut self, rows: &[usize], trial: Member) -> Result<Vec<u32>, AllocError> {
+        let mut stay = Vec::new(self.heap);
+        let mut gone = Vec::new(self.heap);
+        for (row, member) in self.members.iter().enumerate() {
+            if rows.contains(&row) {
+                gone.push(member.tag)?;
+            } else {
+                stay.push(*member)?;
+            }
+        }
+        stay.push(trial)?;
+        self.members = stay;
+        Ok(gone)
+    }
+
+    // A trial on the grid goes against the members.
+    fn update(&mut self, trial: Member) -> Result<Reply, AllocError> {
+        let below = self.rows_below(&trial)?;
+        if !below.is_empty() {
+            return self.enter(2, below.as_slice(), trial);
+        }
+        let beaten = self.row_beaten(&trial)?;
+        if !beaten.is_empty() {
+            return self.enter(3, beaten.as_slice(), trial);
+        }
+        if self.is_shut_out(&trial) {
+            return Ok(self.says(Told::Judged {
+                verdict: 0,
+                displaced: 0,
+            }));
+        }
+        if self.members.len() >= self.rows {
+            return Ok(self.says(Told::Denied(6)));
+        }
+        self.enter(1, &[], trial)
+    }
+
+    // The trial enters with this verdict, and the members in these rows go.
+    fn enter(&mut self, verdict: u8, rows: &[usize], trial: Member) -> Result<Reply, AllocError> {
+        let tags = self.trade(rows, trial)?;
+        Ok(Reply {
+            told: Told::Judged {
+                verdict,
+                displaced: tags.len(),
+            },
+            tags,
+            block: None,
+        })
+    }
+
+    // An offer over so many rows and so long a list.
+    pub(crate) fn offer(
+        &mut self,
+        rows: usize,
+        room: usize,
+        tag: u32,
+        point: &Point,
+    ) -> Result<Reply, AllocError> {
+        let trial = member_of(&self.rules, tag, *point);
+        if rows != self.rows {
+            return Ok(self.says(Told::Denied(3)));
+        }
+        if room < self.rows {
+            return Ok(self.says(Told::Denied(4)));
+        }
+        if !trial.admitted {
+            return Ok(self.says(Told::Denied(5)));
+        }
+        self.update(trial)
+    }
+
+    // The first pair of rows that may not stand, the lowest first.
+    fn first_clash(&self) -> Option<(usize, usize)> {
+        for (i, one) in self.members.iter().enumerate() {
+            if !one.admitted {
+                return Some((i, i));
+            }
+            for (j, other) in self.members.iter().enumerate() {
+                if i < j && clash(one, other) {
+                    return Some((i, j));
+                }
+            }
+        }
+        None
+    }
+
+    // An audit over so many rows.
+    pub(crate) fn audit(&self, rows: usize) -> Reply {
+        if rows != self.rows {
+            return self.says(Told::Denied(3));
+        }
+        self.says(Told::Audited(self.first_clash()))
+    }
+
+    // A list over so many rows and so long a list.
+    pub(crate) fn list(&self, rows: usize, room: usize) -> Result<Reply, AllocError> {
+        if rows != self.rows {
+            return Ok(self.says(Told::Denied(3)));
+        }
+        if room < self.members.len() {
+            return Ok(self.says(Told::Denied(4)));
+        }
+        let mut tags = Vec::new(self.heap);
+        for member in self.members.iter() {
+            tags.push(member.tag)?;
+        }
+        Ok(Reply {
+            told: Told::Listed(tags.len()),
+            tags,
+            block: None,
+        })
+    }
+
+    // All blocks of the members: one after the other as many as fit, and one if there is no member.
+    pub(crate) fn all_blocks(&self) -> Result<Vec<Vec<u8>>, AllocError> {
+        let mut blocks = Vec::new(self.heap);
+        let each = trials_to_a_block(&self.rules).max(1);
+        for part in self.members.as_slice().chunks(each) {
+            let number = u32::try_from(blocks.len()).unwrap_or(0);
+            blocks.push(write_block(self.heap, &self.rules, number, part)?)?;
+        }
+        if blocks.is_empty() {
+            blocks.push(write_block(self.heap, &self.rules, 0, &[])?)?;
+        }
+        Ok(blocks)
+    }
+
+    // A save over so many rows of the block of this number, into a lent block of so many bytes.
+    pub(crate) fn save(
+        &self,
+        rows: usize,
+        number: usize,
+        size: usize,
+    ) -> Result<Reply, AllocError> {
+        if rows != self.rows {
+            return Ok(self.says(Told::Denied(3)));
+        }
+        if size != 512 {
+            return Ok(self.says(Told::Denied(9)));
+        }
+        let blocks = self.all_blocks()?;
+        for (k, block) in blocks.into_iter().enumerate() {
+            if k == number {
+                let count = usize::from(block.get(1).copied().unwrap_or(0));
+                return Ok(Reply {
+                    told: Told::Saved(count),
+                    tags: Vec::new(self.heap),
+                    block: Some(block),
+                });
+            }
+        }
+        Ok(self.says(Told::Denied(14)))
+    }
+
+    // A feed over so many rows: the whole block is looked at before its first trial.
+    pub(crate) fn feed(&mut self, rows: usize, bytes: &[u8]) -> Result<Reply, AllocError> {
+        if rows != self.rows {
+            return Ok(self.says(Told::Refused(Fault {
+                number: 3,
+                layer: 3,
+                place: 0,
+            })));
+        }
+        match read_block(self.heap, &self.rules, bytes)? {
+            Err(fault) => Ok(self.says(Told::Refused(fault))),
+            Ok(trials) => self.take(trials.as_slice()),
+        }
+    }
+
+    // One trial after the other; a denied one does not stop the rest, and the first is told.
+    fn take(&mut self, trials: &[Found]) -> Result<Reply, AllocError> {
+        let mut entered = 0usize;
+        let mut passed = 0usize;
+        let mut denied = 0usize;
+        let mut gone = 0usize;
+        let mut first = no_fault();
+        for found in trials {
+            let reply = self.offer(self.rows, self.rows, found.tag, &found.point)?;
+            match reply.told {
+                Told::Judged {
+                    verdict: 0,
+                    displaced: _,
+                } => passed = passed.saturating_add(1),
+                Told::Judged {
+                    verdict: _,
+                    displaced,
+                } => {
+                    entered = entered.saturating_add(1);
+                    gone = gone.saturating_add(displaced);
+                }
+                Told::Denied(number) => {
+                    denied = denied.saturating_add(1);
+                    if first == no_fault() {
+                        first = Fault {
+                            number,
+                            layer: 3,
+                            place: found.place,
+                        };
+                    }
+                }
+                _ => {}
+            }
+        }
+        Ok(self.says(Told::Fed {
+            entered,
+            passed,
+            denied,
+            displaced: gone,
+            first,
+        }))
+    }
+}
