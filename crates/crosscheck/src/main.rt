@@ -2,7 +2,10 @@
 #![tactic(auto)]
 
 mod blocks;
+mod bridge;
 mod figures;
+mod histories;
+mod house;
 mod second;
 
 fn main(rt: HostRuntime) -> anyhow::Result<()> {

@@ -1,0 +1,81 @@
+// Histories: a space, so many rows, and calls with what each is to be lent.
+use crate::figures::{Point, Rule, Rules};
+
+// Which of the first archive's spaces a history is over.
+#[derive(Clone, Copy, PartialEq, Eq, Debug)]
+pub(crate) enum Kind {
+    Step,
+    Ratio,
+    StepStep,
+    StepRatio,
+    RatioStep,
+    RatioRatio,
+}
+
+// A call with what it is to be lent: how many rows, how much of the list, how much of the block.
+#[derive(Drop)]
+pub(crate) enum Call {
+    Offer {
+        rows: usize,
+        room: usize,
+        tag: u32,
+        point: Point,
+    },
+    Feed {
+        rows: usize,
+        block: Vec<u8>,
+    },
+    Audit {
+        rows: usize,
+    },
+    List {
+        rows: usize,
+        room: usize,
+    },
+    Save {
+        rows: usize,
+        number: usize,
+        size: usize,
+    },
+}
+
+// The rules of two spaces, of which the second has none where there is one space alone.
+#[derive(Drop)]
+pub(crate) struct Scales {
+    pub kind: Kind,
+    pub first: Vec<Rule>,
+    pub second: Vec<Rule>,
+}
+
+// A history over a space that can be made.
+#[derive(Drop)]
+pub(crate) struct History {
+    pub scales: Scales,
+    pub rows: usize,
+    pub calls: Vec<Call>,
+    // points to fill rows with, and to ask the space about
+    pub points: Vec<Point>,
+    // how many rows there are to restore to
+    pub restore_rows: usize,
+    // a block that the restore is given in front of the others, if any
+    pub restore_first: Option<Vec<u8>>,
+}
+
+impl Kind {
+    // Whether two spaces stand side by side.
+    pub(crate) fn is_pair(self) -> bool {
+        !matches!(self, Kind::Step | Kind::Ratio)
+    }
+}
+
+impl Scales {
+    // The rules, place by place: six of each space.
+    pub(crate) fn rules(&self) -> Rules {
+        let mut rules = [Rule::Unused; 12];
+        for i in 0..6 {
+            rules[i] = self.first.get(i).copied().unwrap_or(Rule::Unused);
+            rules[i + 6] = self.second.get(i).copied().unwrap_or(Rule::Unused);
+        }
+        rules
+    }
+}

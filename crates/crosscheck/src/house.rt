@@ -1,0 +1,107 @@
+// The first archive, asked by its own calls, with what it is lent.
+use crate::bridge::{Figured, told_audit, told_feed, told_list, told_offer, told_save};
+use crate::figures::Point;
+use crate::histories::Call;
+use crate::second::Told;
+use archive::Archive;
+use space::{Recorded, Trial};
+use std::alloc::{AllocError, Global};
+
+// What the calls of a history are lent: the archive's own rows, strange rows, a list and a block.
+#[derive(Drop)]
+pub(crate) struct Lent<P: Copy> {
+    pub own: Vec<Trial<P>>,
+    pub strange: Vec<Trial<P>>,
+    pub list: Vec<u32>,
+    pub block: Vec<u8>,
+}
+
+// Rows with the same trial throughout.
+pub(crate) fn rows_of<P: Figured>(
+    heap: Global,
+    count: usize,
+    tag: u32,
+    point: &Point,
+) -> Result<Vec<Trial<P>>, AllocError> {
+    let mut rows = Vec::new(heap);
+    for _ in 0..count {
+        rows.push(Trial {
+            point: P::of_figures(point),
+            tag,
+        })?;
+    }
+    Ok(rows)
+}
+
+// As much to lend as every call of a history over so many rows may ask for.
+pub(crate) fn lent_of<P: Figured>(heap: Global, rows: usize) -> Result<Lent<P>, AllocError> {
+    let more = rows.saturating_add(2);
+    Ok(Lent {
+        own: rows_of(heap, rows, 7, &[0; 12])?,
+        strange: rows_of(heap, more, 9, &[1; 12])?,
+        list: vec![in heap; 77; more]?,
+        block: vec![in heap; 88; 520]?,
+    })
+}
+
+// How many rows are lent where so many are wanted: the archive's own or strange ones.
+pub(crate) fn rows_lent(own: usize, strange: usize, want: usize) -> usize {
+    if want == own { own } else { want.min(strange) }
+}
+
+// Those rows.
+fn rows_for<'a, P: Copy>(
+    own: &'a mut Vec<Trial<P>>,
+    strange: &'a mut Vec<Trial<P>>,
+    want: usize,
+) -> &'a mut [Trial<P>] {
+    if want == own.len() {
+        return own.as_mut_slice();
+    }
+    let count = want.min(strange.len());
+    &mut strange.as_mut_slice()[..count]
+}
+
+// One call on the first archive.
+pub(crate) fn ask<S: Recorded>(
+    archive: &mut Archive<S>,
+    lent: &mut Lent<S::Point>,
+    call: &Call,
+) -> Told
+where
+    S::Point: Figured,
+{
+    match call {
+        Call::Offer {
+            rows,
+            room,
+            tag,
+            point,
+        } => {
+            let trial = Trial {
+                point: S::Point::of_figures(point),
+                tag: *tag,
+            };
+            let room = (*room).min(lent.list.len());
+            let rows = rows_for(&mut lent.own, &mut lent.strange, *rows);
+            told_offer(archive.offer(trial, rows, &mut lent.list.as_mut_slice()[..room]))
+        }
+        Call::Feed { rows, block } => {
+            let rows = rows_for(&mut lent.own, &mut lent.strange, *rows);
+            told_feed(archive.feed(block.as_slice(), rows))
+        }
+        Call::Audit { rows } => {
+            told_audit(archive.audit(rows_for(&mut lent.own, &mut lent.strange, *rows)))
+        }
+        Call::List { rows, room } => {
+            let room = (*room).min(lent.list.len());
+            let rows = rows_for(&mut lent.own, &mut lent.strange, *rows);
+            told_list(archive.list(rows, &mut lent.list.as_mut_slice()[..room]))
+        }
+        Call::Save { rows, number, size } => {
+            let size = (*size).min(lent.block.len());
+            let rows = rows_for(&mut lent.own, &mut lent.strange, *rows);
+            told_save(archive.save(rows, *number, &mut lent.block.as_mut_slice()[..size]))
+        }
+    }
+}
