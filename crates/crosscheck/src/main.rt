@@ -3,9 +3,11 @@
 
 mod blocks;
 mod bridge;
+mod chance;
 mod figures;
 mod histories;
 mod house;
+mod making;
 mod second;
 
 fn main(rt: HostRuntime) -> anyhow::Result<()> {

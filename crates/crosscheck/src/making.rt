@@ -1,0 +1,323 @@
+// Spaces and points made up by chance: points on every edge of a box, at the ends of the grid and off it.
+use crate::chance::Chance;
+use crate::figures::{Point, Rule, Rules, edge_after};
+use crate::histories::{Kind, Scales};
+use std::alloc::{AllocError, Global};
+
+// A whole number as one of 32 bits.
+fn signed(number: i64) -> i32 {
+    i32::try_from(number).unwrap_or(i32::MAX)
+}
+
+// A whole number as one of 32 bits without a sign.
+fn unsigned(number: i64) -> u32 {
+    u32::try_from(number.max(0)).unwrap_or(u32::MAX)
+}
+
+// A step rule with so many boxes.
+fn step_rule(chance: &mut Chance, boxes: i64) -> Rule {
+    let step = match chance.below(12) {
+        0 => chance.between(1, 1_000_000),
+        1 => 1,
+        _ => chance.between(1, 12),
+    };
+    let low = match chance.below(10) {
+        0 => -2_147_483_648,
+        1 => 0,
+        _ => chance.between(-40, 40),
+    };
+    let span = step
+        .saturating_mul(boxes.saturating_sub(1))
+        .saturating_add(chance.between(0, step.saturating_sub(1)));
+    Rule::Step {
+        smaller: chance.once_in(2),
+        low: signed(low),
+        high: signed(low.saturating_add(span)),
+        step: unsigned(step),
+    }
+}
+
+// The edge of this box.
+fn edge_of(per_cent: u32, number: i64) -> i64 {
+    let mut edge = 1;
+    for _ in 0..number.min(1100) {
+        edge = edge_after(per_cent, edge);
+    }
+    edge
+}
+
+// A ratio rule with so many boxes.
+fn ratio_rule(chance: &mut Chance, boxes: i64) -> Rule {
+    let per_cent = match chance.below(8) {
+        0 => 100,
+        1 => 1,
+        2 => 50,
+        _ => unsigned(chance.between(1, 100)),
+    };
+    let last = edge_of(per_cent, boxes.saturating_sub(1)).min(1_000_000);
+    let most = edge_after(per_cent, last)
+        .saturating_sub(1)
+        .min(1_000_000);
+    let ceiling = if chance.once_in(2) {
+        last
+    } else {
+        chance.between(last, most)
+    };
+    Rule::Ratio {
+        per_cent,
+        ceiling: unsigned(ceiling),
+    }
+}
+
+// How many boxes an objective is to have: few, so that trials meet, and at times very many.
+fn boxes_for(chance: &mut Chance, objectives: usize) -> i64 {
+    if chance.once_in(30) {
+        return chance.between(100, 1024);
+    }
+    if objectives > 3 {
+        chance.between(1, 3)
+    } else {
+        chance.between(1, 8)
+    }
+}
+
+// So many rules of one kind, of a space with so many objectives in all.
+fn rules_of(
+    heap: Global,
+    chance: &mut Chance,
+    ratio: bool,
+    count: usize,
+    objectives: usize,
+) -> Result<Vec<Rule>, AllocError> {
+    let mut rules = Vec::new(heap);
+    for _ in 0..count {
+        let boxes = boxes_for(chance, objectives);
+        let rule = if ratio {
+            ratio_rule(chance, boxes)
+        } else {
+            step_rule(chance, boxes)
+        };
+        rules.push(rule)?;
+    }
+    Ok(rules)
+}
+
+// Which space: alone or side by side.
+fn kind_by(chance: &mut Chance) -> Kind {
+    match chance.below(8) {
+        0 | 1 => Kind::Step,
+        2 | 3 => Kind::Ratio,
+        4 => Kind::StepStep,
+        5 => Kind::StepRatio,
+        6 => Kind::RatioStep,
+        _ => Kind::RatioRatio,
+    }
+}
+
+// Scales of a space that can be made, with one to six objectives.
+pub(crate) fn scales_by(heap: Global, chance: &mut Chance) -> Result<Scales, AllocError> {
+    let kind = kind_by(chance);
+    let (front, back) = if kind.is_pair() {
+        let front = chance.size(5).saturating_add(1);
+        let back = chance.size(6usize.saturating_sub(front)).saturating_add(1);
+        (front, back)
+    } else {
+        (chance.size(6).saturating_add(1), 0)
+    };
+    let all = front.saturating_add(back);
+    let first = matches!(kind, Kind::Ratio | Kind::RatioStep | Kind::RatioRatio);
+    let second = matches!(kind, Kind::StepRatio | Kind::RatioRatio);
+    Ok(Scales {
+        kind,
+        first: rules_of(heap, chance, first, front, all)?,
+        second: rules_of(heap, chance, second, back, all)?,
+    })
+}
+
+// A rule with something wrong, or so many boxes that it may be.
+fn bent_rule(chance: &mut Chance, rule: Rule) -> Rule {
+    match rule {
+        Rule::Unused => Rule::Unused,
+        Rule::Step {
+            smaller,
+            low,
+            high,
+            step,
+        } => match chance.below(5) {
+            0 => Rule::Step {
+                smaller,
+                low: high.saturating_add(1),
+                high,
+                step,
+            },
+            1 => Rule::Step {
+                smaller,
+                low,
+                high,
+                step: 0,
+            },
+            2 => Rule::Step {
+                smaller,
+                low,
+                high,
+                step: unsigned(chance.between(2_147_483_646, 2_147_483_649)),
+            },
+            3 => Rule::Step {
+                smaller,
+                low,
+                high: signed(
+                    i64::from(low).saturating_add(
+                        i64::from(step)
+                            .saturating_mul(1024)
+                            .saturating_add(chance.between(-1, 0)),
+                    ),
+                ),
+                step,
+            },
+            _ => Rule::Step {
+                smaller,
+                low: i32::MIN,
+                high: i32::MAX,
+                step: unsigned(chance.between(4_194_303, 4_194_304)),
+            },
+        },
+        Rule::Ratio { per_cent, ceiling } => match chance.below(5) {
+            0 => Rule::Ratio {
+                per_cent: 0,
+                ceiling,
+            },
+            1 => Rule::Ratio {
+                per_cent: unsigned(chance.between(100, 101)),
+                ceiling,
+            },
+            2 => Rule::Ratio {
+                per_cent,
+                ceiling: 0,
+            },
+            3 => Rule::Ratio {
+                per_cent: 100,
+                ceiling: unsigned(chance.between(1_000_000, 1_000_001)),
+            },
+            _ => Rule::Ratio {
+                per_cent: 1,
+                ceiling: unsigned(
+                    edge_of(1, 1024)
+                        .saturating_add(chance.between(-1, 0))
+                        .min(1_000_000),
+                ),
+            },
+        },
+    }
+}
+
+// Rules of which some may be wrong, and as many as may be too many or none.
+fn bent_rules(heap: Global, chance: &mut Chance, ratio: bool) -> Result<Vec<Rule>, AllocError> {
+    let count = chance.size(8);
+    let straight = rules_of(heap, chance, ratio, count, count)?;
+    let mut rules = Vec::new(heap);
+    for rule in straight.iter() {
+        rules.push(if chance.once_in(4) {
+            bent_rule(chance, *rule)
+        } else {
+            *rule
+        })?;
+    }
+    Ok(rules)
+}
+
+// Scales of a space that perhaps cannot be made.
+pub(crate) fn bent_scales_by(heap: Global, chance: &mut Chance) -> Result<Scales, AllocError> {
+    let ratio = chance.once_in(2);
+    Ok(Scales {
+        kind: if ratio { Kind::Ratio } else { Kind::Step },
+        first: bent_rules(heap, chance, ratio)?,
+        second: Vec::new(heap),
+    })
+}
+
+// Scales of two sound spaces, of up to six objectives each, which may be too many together.
+pub(crate) fn wide_scales_by(heap: Global, chance: &mut Chance) -> Result<Scales, AllocError> {
+    let front = chance.size(6).saturating_add(1);
+    let back = chance.size(6).saturating_add(1);
+    let kind = match chance.below(4) {
+        0 => Kind::StepStep,
+        1 => Kind::StepRatio,
+        2 => Kind::RatioStep,
+        _ => Kind::RatioRatio,
+    };
+    let first = matches!(kind, Kind::RatioStep | Kind::RatioRatio);
+    let second = matches!(kind, Kind::StepRatio | Kind::RatioRatio);
+    Ok(Scales {
+        kind,
+        first: rules_of(heap, chance, first, front, 4)?,
+        second: rules_of(heap, chance, second, back, 4)?,
+    })
+}
+
+// A figure at or near the lower edge of a box, the upper one, or within it; `from` and `to` are both edges.
+fn near(chance: &mut Chance, from: i64, to: i64) -> i64 {
+    match chance.below(6) {
+        0 => from.saturating_sub(1),
+        1 => from,
+        2 => from.saturating_add(1),
+        3 => to.saturating_sub(1),
+        _ => chance.between(from, to.saturating_sub(1)),
+    }
+}
+
+// A figure for one place, mostly on the grid.
+fn figure_by(chance: &mut Chance, rule: &Rule) -> i64 {
+    let stays = !chance.once_in(40);
+    let number = chance.between(0, rule.extent().saturating_sub(1));
+    match rule {
+        Rule::Unused => i64::from(chance.once_in(400)),
+        Rule::Step {
+            smaller,
+            low,
+            high,
+            step,
+        } => {
+            let from = number.saturating_mul(i64::from(*step));
+            let worth = near(chance, from, from.saturating_add(i64::from(*step)));
+            let figure = if *smaller {
+                i64::from(*high).saturating_sub(worth)
+            } else {
+                i64::from(*low).saturating_add(worth)
+            };
+            let figure = if stays {
+                figure.max(i64::from(*low)).min(i64::from(*high))
+            } else {
+                figure
+            };
+            i64::from(signed(figure.max(-2_147_483_648)))
+        }
+        Rule::Ratio { per_cent, ceiling } => {
+            let from = edge_of(*per_cent, number);
+            let figure = near(chance, from, edge_after(*per_cent, from));
+            let figure = if stays {
+                figure.max(1).min(i64::from(*ceiling))
+            } else {
+                figure
+            };
+            i64::from(unsigned(figure))
+        }
+    }
+}
+
+// A point, mostly on the grid.
+pub(crate) fn point_by(chance: &mut Chance, rules: &Rules) -> Point {
+    let mut point = [0; 12];
+    for i in 0..12 {
+        point[i] = figure_by(chance, &rules[i]);
+    }
+    point
+}
+
+// A tag: small ones come again and again, and at times the largest of all.
+pub(crate) fn tag_by(chance: &mut Chance) -> u32 {
+    match chance.below(20) {
+        0 => u32::MAX,
+        1 => unsigned(chance.between(0, 4_294_967_295)),
+        _ => unsigned(chance.between(0, 30)),
+    }
+}
