@@ -140,7 +140,7 @@ pub(crate) fn read_block(
 }
 
 // Writes some bytes after the others.
-fn put(block: &mut Vec<u8>, bytes: &[u8]) -> Result<(), AllocError> {
+pub(crate) fn put(block: &mut Vec<u8>, bytes: &[u8]) -> Result<(), AllocError> {
     for byte in bytes {
         block.push(*byte)?;
     }
@@ -151,6 +151,20 @@ fn put(block: &mut Vec<u8>, bytes: &[u8]) -> Result<(), AllocError> {
 fn figure_bytes(figure: i64) -> [u8; 4] {
     let [_, _, _, _, a, b, c, d] = figure.to_be_bytes();
     [a, b, c, d]
+}
+
+// Writes the figures of a point, one for each objective.
+pub(crate) fn figures_bytes(
+    rules: &Rules,
+    point: &Point,
+    block: &mut Vec<u8>,
+) -> Result<(), AllocError> {
+    for i in 0..12 {
+        if rules[i].is_used() {
+            put(block, &figure_bytes(point[i]))?;
+        }
+    }
+    Ok(())
 }
 
 // How many trials a block has room for.
@@ -174,11 +188,7 @@ pub(crate) fn write_block(
     for member in members {
         put(&mut block, &[1, m.saturating_mul(4).saturating_add(4)])?;
         put(&mut block, &member.tag.to_be_bytes())?;
-        for i in 0..12 {
-            if rules[i].is_used() {
-                put(&mut block, &figure_bytes(member.point[i]))?;
-            }
-        }
+        figures_bytes(rules, &member.point, &mut block)?;
     }
     for _ in block.len()..508 {
         block.push(0)?;

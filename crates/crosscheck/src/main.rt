@@ -3,7 +3,9 @@
 
 mod blocks;
 mod bridge;
+mod calling;
 mod chance;
+mod damaging;
 mod figures;
 mod histories;
 mod house;
