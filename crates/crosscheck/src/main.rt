@@ -1,16 +1,19 @@
 // Holds the archive against a second one.
 #![tactic(auto)]
 
+mod apart;
 mod blocks;
 mod bridge;
 mod calling;
 mod chance;
+mod compare;
 mod damaging;
 mod figures;
 mod histories;
 mod house;
 mod making;
 mod second;
+mod tally;
 
 fn main(rt: HostRuntime) -> anyhow::Result<()> {
     println!(rt; "crosscheck 1")?;

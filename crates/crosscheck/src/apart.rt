@@ -1,0 +1,62 @@
+// Where the two archives are apart.
+use crate::second::Told;
+use std::alloc::AllocError;
+
+// What differs, at which call if at one, and what each archive told there.
+#[derive(Clone, Copy, Debug)]
+pub(crate) struct Apart {
+    pub what: &'static str,
+    pub call: Option<usize>,
+    pub told: Option<(Told, Told)>,
+}
+
+// Why a comparison ends early.
+#[derive(Clone, Copy, Debug)]
+pub(crate) enum Stop {
+    Apart(Apart),
+    Memory,
+}
+
+impl From<AllocError> for Stop {
+    fn from(_failed: AllocError) -> Stop {
+        Stop::Memory
+    }
+}
+
+// Goes on where this holds.
+pub(crate) fn same(holds: bool, what: &'static str) -> Result<(), Stop> {
+    if holds {
+        Ok(())
+    } else {
+        Err(Stop::Apart(Apart {
+            what,
+            call: None,
+            told: None,
+        }))
+    }
+}
+
+// Goes on where both archives told the same.
+pub(crate) fn same_told(first: Told, second: Told, what: &'static str) -> Result<(), Stop> {
+    if first == second {
+        Ok(())
+    } else {
+        Err(Stop::Apart(Apart {
+            what,
+            call: None,
+            told: Some((first, second)),
+        }))
+    }
+}
+
+// The same, found at this call.
+pub(crate) fn at_call(stop: Stop, call: usize) -> Stop {
+    match stop {
+        Stop::Apart(apart) => Stop::Apart(Apart {
+            what: apart.what,
+            call: Some(call),
+            told: apart.told,
+        }),
+        Stop::Memory => Stop::Memory,
+    }
+}
