@@ -12,6 +12,8 @@ mod figures;
 mod histories;
 mod house;
 mod making;
+mod replays;
+mod restores;
 mod second;
 mod tally;
 

@@ -349,3 +349,75 @@ impl Second {
         }))
     }
 }
+
+// Why nothing is restored: the number of the making's denial, or the first block at fault and its fault.
+#[derive(Clone, Copy, PartialEq, Eq, Debug)]
+pub(crate) enum NotRestored {
+    Denied(u8),
+    Block(usize, Fault),
+}
+
+// An archive that is restored, and what the trials of its blocks came to.
+#[derive(Drop)]
+pub(crate) struct Restored {
+    pub archive: Second,
+    pub told: Told,
+}
+
+// What two feeds came to together.
+fn sum(former: Told, latter: Told) -> Told {
+    match (former, latter) {
+        (
+            Told::Fed {
+                entered,
+                passed,
+                denied,
+                displaced,
+                first,
+            },
+            Told::Fed {
+                entered: entered_more,
+                passed: passed_more,
+                denied: denied_more,
+                displaced: displaced_more,
+                first: first_later,
+            },
+        ) => Told::Fed {
+            entered: entered.saturating_add(entered_more),
+            passed: passed.saturating_add(passed_more),
+            denied: denied.saturating_add(denied_more),
+            displaced: displaced.saturating_add(displaced_more),
+            first: if first == no_fault() { first_later } else { first },
+        },
+        _ => former,
+    }
+}
+
+// A fresh archive that is fed these blocks, if it can be made and none of them is at fault.
+pub(crate) fn restore(
+    heap: Global,
+    rules: Rules,
+    rows: usize,
+    blocks: &[Vec<u8>],
+) -> Result<Result<Restored, NotRestored>, AllocError> {
+    let mut archive = match Second::new(heap, rules, rows) {
+        Ok(archive) => archive,
+        Err(number) => return Ok(Err(NotRestored::Denied(number))),
+    };
+    for (k, block) in blocks.iter().enumerate() {
+        if let Err(fault) = read_block(heap, &rules, block.as_slice())? {
+            return Ok(Err(NotRestored::Block(k, fault)));
+        }
+    }
+    let mut told = Told::Fed {
+        entered: 0,
+        passed: 0,
+        denied: 0,
+        displaced: 0,
+        first: no_fault(),
+    };
+    for block in blocks {
+        told = sum(told, archive.feed(rows, block.as_slice())?.told);
+    }
+    Ok(Ok(Restored { archive, told }))
+}
