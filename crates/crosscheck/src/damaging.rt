@@ -55,15 +55,27 @@ impl Filling {
     }
 }
 
-// A point for a block: one of the history's, or a new one.
-pub(crate) fn some_point(chance: &mut Chance, rules: &Rules, points: &[Point]) -> Point {
-    if chance.once_in(4) {
-        let at = chance.size(points.len());
-        if let Some(point) = points.get(at) {
-            return *point;
+// The point with one figure moved by one, so that it may be better or worse within a box.
+fn nudged(chance: &mut Chance, rules: &Rules, point: Point) -> Point {
+    let mut point = point;
+    let i = chance.size(12);
+    if i < 12 && rules[i].is_used() {
+        let figure = point[i].saturating_add(chance.between(-1, 1));
+        if rules[i].admits(figure) {
+            point[i] = figure;
         }
     }
-    point_by(chance, rules)
+    point
+}
+
+// A point: one of the history's, one near it, or a new one.
+pub(crate) fn some_point(chance: &mut Chance, rules: &Rules, points: &[Point]) -> Point {
+    let at = chance.size(points.len());
+    match (chance.below(6), points.get(at)) {
+        (0, Some(point)) => *point,
+        (1 | 2, Some(point)) => nudged(chance, rules, *point),
+        _ => point_by(chance, rules),
+    }
 }
 
 // Fills a block with trials and notes: a few, or at times as many as there is room for, to the last byte.

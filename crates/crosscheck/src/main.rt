@@ -2,6 +2,7 @@
 #![tactic(auto)]
 
 mod apart;
+mod arbitrary;
 mod blocks;
 mod bridge;
 mod calling;
@@ -12,9 +13,11 @@ mod figures;
 mod histories;
 mod house;
 mod making;
+mod questions;
 mod replays;
 mod restores;
 mod second;
+mod spaces;
 mod tally;
 
 fn main(rt: HostRuntime) -> anyhow::Result<()> {
