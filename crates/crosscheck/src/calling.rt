@@ -3,12 +3,15 @@ use crate::chance::Chance;
 use crate::damaging::{block_by, some_point};
 use crate::figures::{Point, Rules, row_need};
 use crate::histories::{Call, History, Scales};
-use crate::making::{point_by, scales_by, tag_by};
+use crate::making::{bent_scales_by, point_by, scales_by, tag_by, wide_scales_by};
 use std::alloc::{AllocError, Global};
 
 // How many rows: as many as the space needs or a few more, few, and at times none, the most that there may be, or too many.
 fn rows_by(chance: &mut Chance, rules: &Rules) -> usize {
     let need = usize::try_from(row_need(rules)).unwrap_or(0);
+    if chance.front {
+        return chance.size(25).saturating_add(40);
+    }
     match chance.below(60) {
         0 => 0,
         1 => 4097,
@@ -109,7 +112,12 @@ fn call_by(
 // The history of this number.
 pub(crate) fn history_by(heap: Global, seed: u64, number: u64) -> Result<History, AllocError> {
     let mut chance = Chance::new(seed, number);
-    let scales = scales_by(heap, &mut chance)?;
+    chance.front = chance.once_in(4);
+    let scales = match chance.below(10) {
+        0 => bent_scales_by(heap, &mut chance)?,
+        1 => wide_scales_by(heap, &mut chance)?,
+        _ => scales_by(heap, &mut chance)?,
+    };
     let rules = scales.rules();
     let rows = rows_by(&mut chance, &rules);
     let mut points = Vec::new(heap);
@@ -117,7 +125,13 @@ pub(crate) fn history_by(heap: Global, seed: u64, number: u64) -> Result<History
         points.push(point_by(&mut chance, &rules))?;
     }
     let mut calls = Vec::new(heap);
-    let wanted = if rows > 100 { 6 } else { chance.size(50) };
+    let wanted = if chance.front {
+        chance.size(80).saturating_add(40)
+    } else if rows > 100 {
+        6
+    } else {
+        chance.size(50)
+    };
     for _ in 0..wanted {
         calls.push(call_by(heap, &mut chance, &rules, points.as_slice(), rows)?)?;
     }

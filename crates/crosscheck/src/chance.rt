@@ -1,9 +1,10 @@
 // Numbers by chance, the same from the same seed.
 
-// Where the row of numbers is: never zero.
+// Where the row of numbers is, never zero; and whether the points of the history lie along a front, so that many stand together.
 #[derive(Clone, Copy)]
 pub(crate) struct Chance {
     state: u64,
+    pub front: bool,
 }
 
 impl Chance {
@@ -12,7 +13,10 @@ impl Chance {
         let mixed = seed
             .wrapping_mul(0x9e37_79b9_7f4a_7c15)
             .wrapping_add(number.wrapping_mul(0xd1b5_4a32_d192_ed03));
-        let mut chance = Chance { state: mixed | 1 };
+        let mut chance = Chance {
+            state: mixed | 1,
+            front: false,
+        };
         for _ in 0..8 {
             chance.next();
         }

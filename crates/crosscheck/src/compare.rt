@@ -48,19 +48,15 @@ pub(crate) fn answer(second: &mut Second, sizes: &Sizes, call: &Call) -> Result<
 // Whether rows hold these members, each point with its own tag, in order.
 pub(crate) fn hold_members<P: Figured>(rows: &[Trial<P>], members: &[Member]) -> bool {
     rows.len() == members.len()
-        && rows
-            .iter()
-            .zip(members)
-            .all(|(row, member)| row.tag == member.tag && row.point.figures() == member.point)
+        && rows.iter().zip(members).all(|(row, member)| row.tag == member.tag
+            && row.point.figures() == member.point)
 }
 
 // Whether rows hold what others hold.
 pub(crate) fn same_rows<P: Figured>(rows: &[Trial<P>], others: &[Trial<P>]) -> bool {
     rows.len() == others.len()
-        && rows
-            .iter()
-            .zip(others)
-            .all(|(row, other)| row.tag == other.tag && row.point.figures() == other.point.figures())
+        && rows.iter().zip(others).all(|(row, other)| row.tag == other.tag
+            && row.point.figures() == other.point.figures())
 }
 
 // A copy of rows.
@@ -163,7 +159,11 @@ fn hold_writes<P: Figured>(
         "the tags in the list",
     )?;
     same(
-        block_fits(before.block.as_slice(), after.block.as_slice(), &reply.block),
+        block_fits(
+            before.block.as_slice(),
+            after.block.as_slice(),
+            &reply.block,
+        ),
         "the bytes of the block",
     )
 }

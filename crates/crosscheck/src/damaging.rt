@@ -71,9 +71,9 @@ fn nudged(chance: &mut Chance, rules: &Rules, point: Point) -> Point {
 // A point: one of the history's, one near it, or a new one.
 pub(crate) fn some_point(chance: &mut Chance, rules: &Rules, points: &[Point]) -> Point {
     let at = chance.size(points.len());
-    match (chance.below(6), points.get(at)) {
+    match (chance.below(7), points.get(at)) {
         (0, Some(point)) => *point,
-        (1 | 2, Some(point)) => nudged(chance, rules, *point),
+        (1..4, Some(point)) => nudged(chance, rules, *point),
         _ => point_by(chance, rules),
     }
 }
@@ -91,7 +91,10 @@ fn fill(
         last: 8,
     };
     put(&mut filling.bytes, &[1, 0])?;
-    put(&mut filling.bytes, &[u8::try_from(objectives(rules)).unwrap_or(0), 0])?;
+    put(
+        &mut filling.bytes,
+        &[u8::try_from(objectives(rules)).unwrap_or(0), 0],
+    )?;
     for _ in 0..4 {
         filling.bytes.push(chance.byte())?;
     }

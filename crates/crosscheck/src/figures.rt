@@ -55,7 +55,10 @@ impl Rule {
         match self {
             Rule::Unused => false,
             Rule::Step {
-                low, high, step, ..
+                low,
+                high,
+                step,
+                ..
             } => low <= high && *step >= 1 && *step <= 2_147_483_647 && self.extent() <= 1024,
             Rule::Ratio { per_cent, ceiling } => {
                 *per_cent >= 1
@@ -81,7 +84,10 @@ impl Rule {
         match self {
             Rule::Unused => 0,
             Rule::Step {
-                smaller, low, high, ..
+                smaller,
+                low,
+                high,
+                ..
             } => {
                 if *smaller {
                     i64::from(*high).saturating_sub(figure)
@@ -110,7 +116,10 @@ impl Rule {
         let best = match self {
             Rule::Unused => 0,
             Rule::Step {
-                smaller, low, high, ..
+                smaller,
+                low,
+                high,
+                ..
             } => i64::from(if *smaller { *low } else { *high }),
             Rule::Ratio { ceiling, .. } => i64::from(*ceiling),
         };

@@ -1,6 +1,9 @@
-// Holds the archive against a second one.
+// Holds the archive against a second one, which is written apart from it from the published definitions: over histories made up
+// by chance, over rows filled with anything, and over the log on standard input. It prints an account of what was tried, or the
+// first history at which the two are apart.
 #![tactic(auto)]
 
+mod account;
 mod apart;
 mod arbitrary;
 mod blocks;
@@ -12,7 +15,9 @@ mod damaging;
 mod figures;
 mod histories;
 mod house;
+mod lines;
 mod making;
+mod named;
 mod questions;
 mod replays;
 mod restores;
@@ -20,7 +25,117 @@ mod second;
 mod spaces;
 mod tally;
 
+use account::{print_account, print_missing};
+use anyhow::anyhow;
+use apart::Stop;
+use calling::history_by;
+use chance::Chance;
+use histories::History;
+use lines::{print_apart, print_history};
+use named::{log_history, named_histories};
+use spaces::hold_history;
+use std::env;
+use std::io::Read;
+use tally::Tally;
+
+// The seed of the histories that are run where no other is asked for.
+const SEED: u64 = 1;
+
+// How many of them there are.
+const HISTORIES: u64 = 400;
+
 fn main(rt: HostRuntime) -> anyhow::Result<()> {
+    let mut asked = env::args(&rt)?.skip(1);
+    match (asked.next(), asked.next()) {
+        (Some(seed), Some(number)) => {
+            run_one(
+                &rt,
+                seed.as_str().parse::<u64>()?,
+                number.as_str().parse::<u64>()?,
+            )
+        }
+        _ => run_all(&rt),
+    }
+}
+
+// One history again: its lines, and whether the archives are apart.
+fn run_one(rt: &HostRuntime, seed: u64, number: u64) -> anyhow::Result<()> {
+    let history = history_by(rt.alloc(), seed, number)?;
+    println!(rt; "history {seed} {number}")?;
+    print_history(rt, &history)?;
+    let mut tally = Tally::new();
+    let held = hold_history(
+        rt.alloc(),
+        &history,
+        &mut Chance::new(number, seed),
+        &mut tally,
+    );
+    match held {
+        Ok(()) => Ok(println!(rt; "the archives agree")?),
+        Err(stop) => tell(rt, stop),
+    }
+}
+
+// What ends a run early.
+fn tell(rt: &HostRuntime, stop: Stop) -> anyhow::Result<()> {
+    match stop {
+        Stop::Memory => Err(anyhow!("there is not enough memory")),
+        Stop::Apart(apart) => {
+            print_apart(rt, &apart)?;
+            Err(anyhow!("the two archives disagree"))
+        }
+    }
+}
+
+// A history that has a name.
+fn run_named(
+    rt: &HostRuntime,
+    name: &str,
+    history: &History,
+    tally: &mut Tally,
+) -> anyhow::Result<()> {
+    match hold_history(rt.alloc(), history, &mut Chance::new(0, 0), tally) {
+        Ok(()) => Ok(println!(rt; "case: {name}")?),
+        Err(stop) => {
+            println!(rt; "case: {name}")?;
+            print_history(rt, history)?;
+            tell(rt, stop)
+        }
+    }
+}
+
+// The history of this number; where the archives are apart it is printed.
+fn run_number(rt: &HostRuntime, number: u64, tally: &mut Tally) -> anyhow::Result<()> {
+    let history = history_by(rt.alloc(), SEED, number)?;
+    match hold_history(rt.alloc(), &history, &mut Chance::new(number, SEED), tally) {
+        Ok(()) => Ok(()),
+        Err(stop) => {
+            println!(rt; "history {SEED} {number}")?;
+            print_history(rt, &history)?;
+            tell(rt, stop)
+        }
+    }
+}
+
+// All histories: those with a name, the log, and those made up by chance.
+fn run_all(rt: &HostRuntime) -> anyhow::Result<()> {
     println!(rt; "crosscheck 1")?;
+    let mut tally = Tally::new();
+    for case in named_histories(rt.alloc())?.iter() {
+        run_named(rt, case.name, &case.history, &mut tally)?;
+    }
+    let mut log = Vec::new(rt.alloc());
+    rt.stdin().read_to_end(&mut log)?;
+    let history = log_history(rt.alloc(), log.as_slice())?;
+    run_named(rt, "the log on standard input", &history, &mut tally)?;
+    for number in 0..HISTORIES {
+        run_number(rt, number, &mut tally)?;
+    }
+    print_account(rt, &tally)?;
+    if !tally.is_whole() {
+        print_missing(rt, &tally)?;
+        return Err(anyhow!("not every verdict and every denial occurred"));
+    }
+    println!(rt; "0 disagreements")?;
     Ok(())
 }

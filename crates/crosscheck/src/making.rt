@@ -55,9 +55,7 @@ fn ratio_rule(chance: &mut Chance, boxes: i64) -> Rule {
         _ => unsigned(chance.between(1, 100)),
     };
     let last = edge_of(per_cent, boxes.saturating_sub(1)).min(1_000_000);
-    let most = edge_after(per_cent, last)
-        .saturating_sub(1)
-        .min(1_000_000);
+    let most = edge_after(per_cent, last).saturating_sub(1).min(1_000_000);
     let ceiling = if chance.once_in(2) {
         last
     } else {
@@ -75,7 +73,10 @@ fn boxes_for(chance: &mut Chance, objectives: usize) -> i64 {
         return chance.between(100, 1024);
     }
     if objectives > 3 {
-        chance.between(1, 3)
+        return chance.between(1, 4);
+    }
+    if chance.front || chance.once_in(5) {
+        chance.between(30, 60)
     } else {
         chance.between(1, 8)
     }
@@ -165,13 +166,11 @@ fn bent_rule(chance: &mut Chance, rule: Rule) -> Rule {
             3 => Rule::Step {
                 smaller,
                 low,
-                high: signed(
-                    i64::from(low).saturating_add(
-                        i64::from(step)
-                            .saturating_mul(1024)
-                            .saturating_add(chance.between(-1, 0)),
-                    ),
-                ),
+                high: signed(i64::from(low).saturating_add(
+                    i64::from(step)
+                        .saturating_mul(1024)
+                        .saturating_add(chance.between(-1, 0)),
+                )),
                 step,
             },
             _ => Rule::Step {
@@ -265,10 +264,9 @@ fn near(chance: &mut Chance, from: i64, to: i64) -> i64 {
     }
 }
 
-// A figure for one place, mostly on the grid.
-fn figure_by(chance: &mut Chance, rule: &Rule) -> i64 {
+// A figure for one place, at the box of this number and mostly on the grid.
+fn figure_by(chance: &mut Chance, rule: &Rule, number: i64) -> i64 {
     let stays = !chance.once_in(40);
-    let number = chance.between(0, rule.extent().saturating_sub(1));
     match rule {
         Rule::Unused => i64::from(chance.once_in(400)),
         Rule::Step {
@@ -304,11 +302,41 @@ fn figure_by(chance: &mut Chance, rule: &Rule) -> i64 {
     }
 }
 
-// A point, mostly on the grid.
+// A part of the last box number, in sixtieths.
+fn part(rule: &Rule, sixtieths: i64) -> i64 {
+    rule.extent()
+        .saturating_sub(1)
+        .saturating_mul(sixtieths)
+        .checked_div(60)
+        .unwrap_or(0)
+}
+
+// The box numbers of a point: any, or good in every second place by as much as bad in the others, so that many stand together.
+fn numbers_by(chance: &mut Chance, rules: &Rules) -> Point {
+    let trades = chance.front && !chance.once_in(50);
+    let mut sixtieths = chance.between(0, 60);
+    let mut numbers = [0; 12];
+    for i in 0..12 {
+        if !trades {
+            sixtieths = chance.between(0, 60);
+        }
+        if rules[i].is_used() {
+            numbers[i] = part(&rules[i], sixtieths);
+            sixtieths = 60i64.saturating_sub(sixtieths);
+        }
+    }
+    numbers
+}
+
+// A point, mostly on the grid. Where there is one space alone, there are no figures of a second.
 pub(crate) fn point_by(chance: &mut Chance, rules: &Rules) -> Point {
+    let pair = rules.iter().skip(6).any(|rule| rule.is_used());
+    let numbers = numbers_by(chance, rules);
     let mut point = [0; 12];
     for i in 0..12 {
-        point[i] = figure_by(chance, &rules[i]);
+        if i < 6 || pair {
+            point[i] = figure_by(chance, &rules[i], numbers[i]);
+        }
     }
     point
 }

@@ -68,7 +68,10 @@ where
     same(space.width() == bytes.len(), "how many bytes a point takes")?;
     let written = point_bytes(space, &first);
     same(
-        written.iter().zip(bytes.iter()).all(|(one, other)| one == other),
+        written
+            .iter()
+            .zip(bytes.iter())
+            .all(|(one, other)| one == other),
         "the bytes of a point",
     )?;
     same(
@@ -78,12 +81,7 @@ where
 }
 
 // Two points: whether the one is no worse, and whether it covers the other.
-fn hold_two<S: Recorded>(
-    space: &S,
-    rules: &Rules,
-    point: &Point,
-    other: &Point,
-) -> Result<(), Stop>
+fn hold_two<S: Recorded>(space: &S, rules: &Rules, point: &Point, other: &Point) -> Result<(), Stop>
 where
     S::Point: Figured,
 {

@@ -120,10 +120,7 @@ fn plain_ask<P: Figured>(call: &Call) -> Option<Ask<P>> {
 }
 
 // The calls of those kinds, not answered yet.
-fn plain_turns<P: Figured>(
-    heap: Global,
-    calls: &[Call],
-) -> Result<Vec<Turn<Ask<P>>>, AllocError> {
+fn plain_turns<P: Figured>(heap: Global, calls: &[Call]) -> Result<Vec<Turn<Ask<P>>>, AllocError> {
     let mut turns = Vec::new(heap);
     for call in calls {
         if let Some(ask) = plain_ask(call) {
@@ -175,7 +172,12 @@ fn same_answer(answer: &Option<history::Answer>, told: Told) -> Result<(), Stop>
 }
 
 // A replay that makes no archive: the second archive is not made either.
-fn hold_refused<S>(heap: Global, refused: &Refused<S>, rules: &Rules, rows: usize) -> Result<(), Stop> {
+fn hold_refused<S>(
+    heap: Global,
+    refused: &Refused<S>,
+    rules: &Rules,
+    rows: usize,
+) -> Result<(), Stop> {
     match Second::new(heap, *rules, rows) {
         Ok(_) => same(false, "whether a replay makes an archive"),
         Err(number) => same(refused.denial.number() == number, "a replay's denial"),
@@ -214,7 +216,10 @@ where
                     return Err(at_call(stop, i));
                 }
             }
-            same(turns.len() == both.told.len(), "how many calls a replay has")?;
+            same(
+                turns.len() == both.told.len(),
+                "how many calls a replay has",
+            )?;
             same(
                 archive.count() == both.second.members.len(),
                 "the number of members after a replay",

@@ -21,6 +21,8 @@ fn hold_saves<S: Recorded>(
     tally: &mut Tally,
 ) -> Result<Vec<Vec<u8>>, Stop> {
     let blocks = second.all_blocks()?;
+    tally.members = tally.members.max(second.members.len());
+    tally.most_blocks = tally.most_blocks.max(blocks.len());
     same(archive.blocks() == blocks.len(), "the number of blocks")?;
     let mut lent = vec![in heap; 99u8; 512]?;
     for (k, block) in blocks.iter().enumerate() {
@@ -123,7 +125,10 @@ where
     match (first, second) {
         (Ok(first), Ok(second)) => hold_restored(heap, &first, rows.as_slice(), &second, tally),
         (Err(first), Err(second)) => {
-            same(not_restored(first.fault) == second, "why nothing is restored")?;
+            same(
+                not_restored(first.fault) == second,
+                "why nothing is restored",
+            )?;
             same(
                 same_rows(rows.as_slice(), before.as_slice()),
                 "rows that a refused restore altered",

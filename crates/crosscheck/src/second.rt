@@ -131,9 +131,8 @@ impl Second {
 
     // Whether some member's box equals the trial's or dominates it.
     fn is_shut_out(&self, trial: &Member) -> bool {
-        self.members
-            .iter()
-            .any(|member| member.boxes == trial.boxes || dominates(&member.boxes, &trial.boxes))
+        self.members.iter().any(|member| member.boxes == trial.boxes
+            || dominates(&member.boxes, &trial.boxes))
     }
 
     // The members become those in other rows than these, and the trial after them. Says which tags went.
@@ -387,7 +386,11 @@ fn sum(former: Told, latter: Told) -> Told {
             passed: passed.saturating_add(passed_more),
             denied: denied.saturating_add(denied_more),
             displaced: displaced.saturating_add(displaced_more),
-            first: if first == no_fault() { first_later } else { first },
+            first: if first == no_fault() {
+                first_later
+            } else {
+                first
+            },
         },
         _ => former,
     }

@@ -69,11 +69,7 @@ fn second_fault(rules: &[Rule]) -> Option<u8> {
 }
 
 // The space, where both archives find nothing wrong with it; none where both tell the same fault.
-fn made<S>(
-    first: Result<S, BadGrid>,
-    rules: &[Rule],
-    tally: &mut Tally,
-) -> Result<Option<S>, Stop>
+fn made<S>(first: Result<S, BadGrid>, rules: &[Rule], tally: &mut Tally) -> Result<Option<S>, Stop>
 where
     S: Copy,
 {

@@ -1,0 +1,105 @@
+// A history as lines of text, and where the archives were found apart.
+use crate::apart::Apart;
+use crate::figures::{Point, Rule};
+use crate::histories::{Call, History};
+use std::io;
+
+// One rule.
+fn print_rule(rt: &HostRuntime, rule: &Rule) -> io::Result<()> {
+    match rule {
+        Rule::Unused => println!(rt; "unused"),
+        Rule::Step {
+            smaller,
+            low,
+            high,
+            step,
+        } => {
+            let better = if *smaller { "smaller" } else { "larger" };
+            println!(rt; "step, {better} is better, from {low} to {high} by {step}")
+        }
+        Rule::Ratio { per_cent, ceiling } => {
+            println!(rt; "ratio, {per_cent} per cent, up to {ceiling}")
+        }
+    }
+}
+
+// The figures of a point, six of each space.
+fn print_point(rt: &HostRuntime, point: &Point) -> io::Result<()> {
+    for figure in point {
+        print!(rt; " {figure}")?;
+    }
+    println!(rt; "")
+}
+
+// The bytes of a block.
+fn print_bytes(rt: &HostRuntime, block: &[u8]) -> io::Result<()> {
+    let length = block.len();
+    print!(rt; "{length} bytes ")?;
+    for byte in block {
+        print!(rt; "{byte:02x}")?;
+    }
+    println!(rt; "")
+}
+
+// One call.
+fn print_call(rt: &HostRuntime, number: usize, call: &Call) -> io::Result<()> {
+    print!(rt; "call {number} ")?;
+    match call {
+        Call::Offer {
+            rows,
+            room,
+            tag,
+            point,
+        } => {
+            print!(rt; "offer rows {rows} list {room} tag {tag} figures")?;
+            print_point(rt, point)
+        }
+        Call::Feed { rows, block } => {
+            print!(rt; "feed rows {rows} block of ")?;
+            print_bytes(rt, block.as_slice())
+        }
+        Call::Audit { rows } => println!(rt; "audit rows {rows}"),
+        Call::List { rows, room } => println!(rt; "list rows {rows} list {room}"),
+        Call::Save { rows, number, size } => {
+            println!(rt; "save rows {rows} number {number} block of {size} bytes")
+        }
+    }
+}
+
+// A history: its space, its rows, its calls, and what is restored to.
+pub(crate) fn print_history(rt: &HostRuntime, history: &History) -> io::Result<()> {
+    for rule in history.scales.first.iter() {
+        print!(rt; "first space: ")?;
+        print_rule(rt, rule)?;
+    }
+    for rule in history.scales.second.iter() {
+        print!(rt; "second space: ")?;
+        print_rule(rt, rule)?;
+    }
+    let rows = history.rows;
+    println!(rt; "rows {rows}")?;
+    for (number, call) in history.calls.iter().enumerate() {
+        print_call(rt, number, call)?;
+    }
+    let rows = history.restore_rows;
+    println!(rt; "restore rows {rows}")?;
+    if let Some(block) = &history.restore_first {
+        print!(rt; "restore in front a block of ")?;
+        print_bytes(rt, block.as_slice())?;
+    }
+    Ok(())
+}
+
+// Where the archives are apart.
+pub(crate) fn print_apart(rt: &HostRuntime, apart: &Apart) -> io::Result<()> {
+    let what = apart.what;
+    println!(rt; "the archives are apart: {what}")?;
+    if let Some(call) = apart.call {
+        println!(rt; "at call {call}")?;
+    }
+    if let Some((first, second)) = apart.told {
+        println!(rt; "the first tells {first:?}")?;
+        println!(rt; "the second tells {second:?}")?;
+    }
+    Ok(())
+}

@@ -1,0 +1,139 @@
+// Histories that are tried by name.
+use crate::calling::history_of;
+use crate::figures::Rule;
+use crate::histories::{Call, History, Kind, Scales};
+use std::alloc::{AllocError, Global};
+
+// A history and its name.
+#[derive(Drop)]
+pub(crate) struct Named {
+    pub name: &'static str,
+    pub history: History,
+}
+
+// Two objectives from 0 up to the same high end, larger being better, in boxes of this width.
+fn square(heap: Global, high: i32, step: u32) -> Result<Scales, AllocError> {
+    let rule = Rule::Step {
+        smaller: false,
+        low: 0,
+        high,
+        step,
+    };
+    let mut first = Vec::new(heap);
+    first.push(rule)?;
+    first.push(rule)?;
+    Ok(Scales {
+        kind: Kind::Step,
+        first,
+        second: Vec::new(heap),
+    })
+}
+
+// An offer of each of these points over so many rows, with tags from 1 on, and then an audit, a list and a save.
+fn offers(heap: Global, rows: usize, points: &[(i64, i64)]) -> Result<Vec<Call>, AllocError> {
+    let mut calls = Vec::new(heap);
+    let mut tag = 0u32;
+    for (x, y) in points {
+        tag = tag.saturating_add(1);
+        calls.push(Call::Offer {
+            rows,
+            room: rows,
+            tag,
+            point: [*x, *y, 0, 0, 0, 0, 0, 0, 0, 0, 0, 0],
+        })?;
+    }
+    end(&mut calls, rows)?;
+    Ok(calls)
+}
+
+// An audit, a list and a save.
+fn end(calls: &mut Vec<Call>, rows: usize) -> Result<(), AllocError> {
+    calls.push(Call::Audit { rows })?;
+    calls.push(Call::List { rows, room: rows })?;
+    calls.push(Call::Save {
+        rows,
+        number: 0,
+        size: 512,
+    })?;
+    Ok(())
+}
+
+// Offers of these points to an archive over a square.
+fn over_square(
+    heap: Global,
+    name: &'static str,
+    scales: Scales,
+    rows: usize,
+    points: &[(i64, i64)],
+) -> Result<Named, AllocError> {
+    let calls = offers(heap, rows, points)?;
+    Ok(Named {
+        name,
+        history: history_of(heap, scales, rows, calls),
+    })
+}
+
+// The histories that are tried by name, but for the log.
+pub(crate) fn named_histories(heap: Global) -> Result<Vec<Named>, AllocError> {
+    let mut all = Vec::new(heap);
+    all.push(over_square(
+        heap,
+        "the same point twice",
+        square(heap, 9, 1)?,
+        10,
+        &[(5, 5), (5, 5)],
+    )?)?;
+    all.push(over_square(
+        heap,
+        "member (19, 19) against (25, 12) over boxes of ten",
+        square(heap, 99, 10)?,
+        10,
+        &[(19, 19), (25, 12)],
+    )?)?;
+    all.push(over_square(
+        heap,
+        "one trial for two members",
+        square(heap, 9, 1)?,
+        10,
+        &[(1, 9), (3, 3), (5, 1), (9, 0), (6, 4)],
+    )?)?;
+    all.push(over_square(
+        heap,
+        "a full archive",
+        square(heap, 9, 1)?,
+        2,
+        &[(1, 9), (9, 0), (5, 5), (9, 1)],
+    )?)?;
+    Ok(all)
+}
+
+// The log of these bytes, fed block by block to 32 rows over delay beside life, with an audit, a list and a save at the end.
+pub(crate) fn log_history(heap: Global, bytes: &[u8]) -> Result<History, AllocError> {
+    let mut first = Vec::new(heap);
+    first.push(Rule::Step {
+        smaller: true,
+        low: 0,
+        high: 9999,
+        step: 500,
+    })?;
+    let mut second = Vec::new(heap);
+    second.push(Rule::Ratio {
+        per_cent: 50,
+        ceiling: 1000,
+    })?;
+    let scales = Scales {
+        kind: Kind::StepRatio,
+        first,
+        second,
+    };
+    let mut calls = Vec::new(heap);
+    for piece in bytes.chunks(512) {
+        let mut block = Vec::new(heap);
+        for byte in piece {
+            block.push(*byte)?;
+        }
+        calls.push(Call::Feed { rows: 32, block })?;
+    }
+    end(&mut calls, 32)?;
+    Ok(history_of(heap, scales, 32, calls))
+}
