@@ -2,11 +2,12 @@
 use crate::second::Told;
 use std::alloc::AllocError;
 
-// What differs, at which call if at one, and what each archive told there.
+// What differs, at which call or which round of arbitrary rows if at one, and what each archive told there.
 #[derive(Clone, Copy, Debug)]
 pub(crate) struct Apart {
     pub what: &'static str,
     pub call: Option<usize>,
+    pub round: Option<usize>,
     pub told: Option<(Told, Told)>,
 }
 
@@ -31,6 +32,7 @@ pub(crate) fn same(holds: bool, what: &'static str) -> Result<(), Stop> {
         Err(Stop::Apart(Apart {
             what,
             call: None,
+            round: None,
             told: None,
         }))
     }
@@ -44,6 +46,7 @@ pub(crate) fn same_told(first: Told, second: Told, what: &'static str) -> Result
         Err(Stop::Apart(Apart {
             what,
             call: None,
+            round: None,
             told: Some((first, second)),
         }))
     }
@@ -55,6 +58,20 @@ pub(crate) fn at_call(stop: Stop, call: usize) -> Stop {
         Stop::Apart(apart) => Stop::Apart(Apart {
             what: apart.what,
             call: Some(call),
+            round: None,
+            told: apart.told,
+        }),
+        Stop::Memory => Stop::Memory,
+    }
+}
+
+// The same, found in this round of arbitrary rows.
+pub(crate) fn in_round(stop: Stop, round: usize) -> Stop {
+    match stop {
+        Stop::Apart(apart) => Stop::Apart(Apart {
+            what: apart.what,
+            call: None,
+            round: Some(round),
             told: apart.told,
         }),
         Stop::Memory => Stop::Memory,

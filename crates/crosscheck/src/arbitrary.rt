@@ -1,5 +1,5 @@
 // Rows that came from no history: filled with anything, audited and offered to on both archives.
-use crate::apart::{Stop, at_call};
+use crate::apart::{Stop, in_round};
 use crate::bridge::Figured;
 use crate::chance::Chance;
 use crate::compare::{hold_call, sizes_of};
@@ -121,7 +121,7 @@ where
         fill(heap, chance, rules, history.points.as_slice(), both)?;
         match hold_round(heap, chance, rules, history, both, tally) {
             Ok(()) => {}
-            Err(stop) => return Err(at_call(stop, round)),
+            Err(stop) => return Err(in_round(stop, round)),
         }
     }
     Ok(())

@@ -97,6 +97,9 @@ pub(crate) fn print_apart(rt: &HostRuntime, apart: &Apart) -> io::Result<()> {
     if let Some(call) = apart.call {
         println!(rt; "at call {call}")?;
     }
+    if let Some(round) = apart.round {
+        println!(rt; "in round {round} of arbitrary rows")?;
+    }
     if let Some((first, second)) = apart.told {
         println!(rt; "the first tells {first:?}")?;
         println!(rt; "the second tells {second:?}")?;

@@ -1,4 +1,4 @@
-// Holds the archive against a second one, which is written apart from it from the published definitions: over histories made up
+// Holds the archive against a second one, which is written apart from it from the definitions: over histories made up
 // by chance, over rows filled with anything, and over the log on standard input. It prints an account of what was tried, or the
 // first history at which the two are apart.
 #![tactic(auto)]
@@ -42,7 +42,7 @@ use tally::Tally;
 const SEED: u64 = 1;
 
 // How many of them there are.
-const HISTORIES: u64 = 400;
+const HISTORIES: u64 = 800;
 
 fn main(rt: HostRuntime) -> anyhow::Result<()> {
     let mut asked = env::args(&rt)?.skip(1);
