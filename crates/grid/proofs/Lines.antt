@@ -4,7 +4,7 @@ use Rattle.std.proofs.lemmas.List.{get_or-map, length-map}
 use Rattle.grid.specs.Bits.{Bits}
 use Rattle.grid.specs.Line.{Line}
 use Rattle.grid.specs.Space.{unused, line_at}
-use Rattle.grid.proofs.Laws.{past_the_last}
+use Rattle.grid.specs.Laws.{past_the_last}
 
 module _ {A F : Type 0} (B : Bits F) (line : A → Line F) (axes : List A) where
   -- objective i has the line of its rule

@@ -3,3 +3,8 @@ pub mod Bytes
 pub mod Line
 pub mod Making
 pub mod Space
+pub mod Laws
+pub mod InUse
+pub mod Tests
+pub mod Recorded
+pub mod Whole

@@ -7,12 +7,13 @@ ghost use Rattle.grid.specs.Space.{figure_at};
 
 use crate::compare::figure_at;
 use crate::figure::Figure;
+use std::array;
 
 // The byte at place k; 0 past the end.
 fn byte(bytes: &[u8], k: usize) -> u8
     ensures { result ≡ slice_index bytes.now k }
 {
-    if k < bytes.len() { bytes[k] } else { 0 }
+    bytes.get(k).copied().unwrap_or(0)
 }
 
 // The number that the four bytes of place i say.
@@ -33,11 +34,7 @@ fn number(bytes: &[u8], i: usize) -> u32
 pub fn read_figures<F: Figure>(bytes: &[u8]) -> [F; 6]
     ensures { result ≡ figures_read F.Figure.bits bytes.now }
 {
-    let mut figures = [F::from_bits(0); 6];
-    for i in 0..6 {
-        figures[i] = F::from_bits(number(bytes, i));
-    }
-    figures
+    array::from_fn(|i| F::from_bits(number(bytes, i)))
 }
 
 // Byte k of the figures' bytes.

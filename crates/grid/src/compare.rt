@@ -4,48 +4,49 @@ ghost use Rattle.std.specs.Prelude.{◌≡◌, map, MatchOption};
 ghost use Rattle.grid.specs.Space.{admits_at, all_below, covers_at, figure_at, grid_meaning, line_at, no_worse_at, unused};
 
 use crate::axis::Axis;
-use crate::figure::Figure;
+use crate::figure::{Figure, zero};
 
 // The figure at place i; zero where the point has none.
 pub(crate) fn figure_at<F: Figure>(p: &[F], i: usize) -> F
     ensures { result ≡ figure_at F.Figure.bits p.now i }
 {
-    if i < p.len() { p[i] } else { F::from_bits(0) }
+    p.get(i).copied().unwrap_or(zero())
 }
 
 // The rule of place i; none past the last objective.
 fn axis_at<A: Axis>(axes: &[A], i: usize) -> Option<&A>
     ensures { MatchOption result (line_at A.Figure.Figure.bits (map A.Axis.line axes.now) i ≡ unused A.Figure.Figure.bits) (λ a. line_at A.Figure.Figure.bits (map A.Axis.line axes.now) i ≡ A.Axis.line a.now) }
 {
-    if i < axes.len() { Some(&axes[i]) } else { None }
+    axes.get(i)
 }
 
-// Whether v may stand at place i.
-fn admits_at<A: Axis>(axes: &[A], i: usize, v: A::Figure) -> bool
-    ensures { result ≡ (line_at A.Figure.Figure.bits (map A.Axis.line axes.now) i).admits v }
+// Whether p's figure may stand at place i.
+fn admits_at<A: Axis>(axes: &[A], p: &[A::Figure], i: usize) -> bool
+    ensures { result ≡ admits_at A.Figure.Figure.bits (map A.Axis.line axes.now) p.now i }
 {
+    let v = figure_at(p, i);
     match axis_at(axes, i) {
         Some(axis) => axis.admits(v),
         None => v.is_zero(),
     }
 }
 
-// Whether v is no worse than w at place i.
-fn no_worse_at<A: Axis>(axes: &[A], i: usize, v: A::Figure, w: A::Figure) -> bool
-    ensures { result ≡ (line_at A.Figure.Figure.bits (map A.Axis.line axes.now) i).no_worse v w }
+// Whether p's figure is no worse than q's at place i.
+fn no_worse_at<A: Axis>(axes: &[A], p: &[A::Figure], q: &[A::Figure], i: usize) -> bool
+    ensures { result ≡ no_worse_at A.Figure.Figure.bits (map A.Axis.line axes.now) p.now q.now i }
 {
     match axis_at(axes, i) {
-        Some(axis) => axis.no_worse(v, w),
+        Some(axis) => axis.no_worse(figure_at(p, i), figure_at(q, i)),
         None => true,
     }
 }
 
-// Whether v covers w at place i.
-fn covers_at<A: Axis>(axes: &[A], i: usize, v: A::Figure, w: A::Figure) -> bool
-    ensures { result ≡ (line_at A.Figure.Figure.bits (map A.Axis.line axes.now) i).covers v w }
+// Whether p's figure covers q's at place i.
+fn covers_at<A: Axis>(axes: &[A], p: &[A::Figure], q: &[A::Figure], i: usize) -> bool
+    ensures { result ≡ covers_at A.Figure.Figure.bits (map A.Axis.line axes.now) p.now q.now i }
 {
     match axis_at(axes, i) {
-        Some(axis) => axis.covers(v, w),
+        Some(axis) => axis.covers(figure_at(p, i), figure_at(q, i)),
         None => true,
     }
 }
@@ -54,36 +55,21 @@ fn covers_at<A: Axis>(axes: &[A], i: usize, v: A::Figure, w: A::Figure) -> bool
 fn admits_below<A: Axis>(axes: &[A], p: &[A::Figure], n: usize) -> bool
     ensures { result ≡ all_below (admits_at A.Figure.Figure.bits (map A.Axis.line axes.now) p.now) n }
 {
-    for i in 0..n {
-        if !admits_at(axes, i, figure_at(p, i)) {
-            return false;
-        }
-    }
-    true
+    (0..n).all(|i| admits_at(axes, p, i))
 }
 
 // Whether p is no worse than q at each of the first n places.
 fn no_worse_below<A: Axis>(axes: &[A], p: &[A::Figure], q: &[A::Figure], n: usize) -> bool
     ensures { result ≡ all_below (no_worse_at A.Figure.Figure.bits (map A.Axis.line axes.now) p.now q.now) n }
 {
-    for i in 0..n {
-        if !no_worse_at(axes, i, figure_at(p, i), figure_at(q, i)) {
-            return false;
-        }
-    }
-    true
+    (0..n).all(|i| no_worse_at(axes, p, q, i))
 }
 
 // Whether p covers q at each of the first n places.
 fn covers_below<A: Axis>(axes: &[A], p: &[A::Figure], q: &[A::Figure], n: usize) -> bool
     ensures { result ≡ all_below (covers_at A.Figure.Figure.bits (map A.Axis.line axes.now) p.now q.now) n }
 {
-    for i in 0..n {
-        if !covers_at(axes, i, figure_at(p, i), figure_at(q, i)) {
-            return false;
-        }
-    }
-    true
+    (0..n).all(|i| covers_at(axes, p, q, i))
 }
 
 // Whether the point is on the grid of these rules.

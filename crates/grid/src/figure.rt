@@ -19,3 +19,13 @@ pub trait Figure: Copy {
 
     ghost exact: { Exact bits };
 }
+
+// The figure zero. Every figure is of 32 bits that is turned into them, and so this one is.
+pub(crate) fn zero<F: Figure>() -> F
+    ensures value { result ≡ F.Figure.bits.zero }
+    ensures held { F.Figure.bits.holds F.Figure.bits.zero ≡ true }
+{
+    let zero = F::from_bits(0);
+    let _ = zero.to_bits();
+    zero
+}

@@ -9,9 +9,11 @@ mod figure;
 mod make;
 mod signed;
 mod unsigned;
+mod whole;
 
 pub use axis::Axis;
 pub use bytes::{read_figures, write_figures};
 pub use compare::{admits, box_number, covers, extent, no_worse};
 pub use figure::Figure;
 pub use make::rules;
+pub use whole::Grid;

@@ -5,9 +5,9 @@ use Rattle.space.specs.Recording.{Faithful, blank_point, read_point}
 use Rattle.grid.specs.Bits.{Bits, Exact, signed_bits, unsigned_bits}
 use Rattle.grid.specs.Bytes.{all_held, sextuple, zero_from}
 use Rattle.grid.specs.Space.{figure_at}
-use Rattle.grid.proofs.InUse.{signed_exact, signed_zero_held, unsigned_exact, unsigned_zero_held}
-use Rattle.grid.proofs.Recorded.{faithful_grid}
-use Rattle.grid.proofs.Tests.{all_below_from}
+use Rattle.grid.specs.InUse.{signed_exact, signed_zero_held, unsigned_exact, unsigned_zero_held}
+use Rattle.grid.specs.Recorded.{faithful_grid}
+use Rattle.grid.specs.Tests.{all_below_from}
 use Rattle.beside.specs.Recorded.{faithful_pair}
 use Rattle.entry.specs.declared.outcome.Entry.{Entry}
 use Rattle.log_block.specs.Items.{note}

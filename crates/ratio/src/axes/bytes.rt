@@ -3,8 +3,8 @@ ghost use Rattle.std.specs.Prelude.{◌≡◌, length, replicate};
 ghost use Rattle.space.specs.Recording.{WritableIfAdmitted, blank_point};
 ghost use Rattle.ratio.specs.Space.{ratio_meaning, ratio_recording};
 ghost use Rattle.grid.specs.Bits.{unsigned_bits};
-ghost use Rattle.grid.proofs.Recorded.{faithful_grid};
-ghost use Rattle.grid.proofs.InUse.{unsigned_exact};
+ghost use Rattle.grid.specs.Recorded.{faithful_grid};
+ghost use Rattle.grid.specs.InUse.{unsigned_exact};
 
 use crate::axes::RatioSpace;
 use grid::{read_figures, write_figures};

@@ -3,7 +3,7 @@ ghost use Rattle.std.specs.Prelude.{◌≡◌, take};
 ghost use Rattle.ratio.specs.Space.{ratio_meaning, axis_line};
 ghost use Rattle.std.proofs.Common.{arith};
 ghost use Rattle.grid.specs.Bits.{unsigned_bits};
-ghost use Rattle.grid.proofs.InUse.{lawful_rules};
+ghost use Rattle.grid.specs.InUse.{lawful_rules};
 ghost use Rattle.ratio.specs.Laws.{ratio_lawful};
 
 use crate::axes::RatioSpace;

@@ -3,8 +3,8 @@ ghost use Rattle.std.specs.Prelude.{◌≡◌, length, replicate, pos};
 ghost use Rattle.space.specs.Recording.{WritableIfAdmitted, blank_point};
 ghost use Rattle.step.specs.Space.{step_meaning, step_recording};
 ghost use Rattle.grid.specs.Bits.{signed_bits};
-ghost use Rattle.grid.proofs.Recorded.{faithful_grid};
-ghost use Rattle.grid.proofs.InUse.{signed_exact};
+ghost use Rattle.grid.specs.Recorded.{faithful_grid};
+ghost use Rattle.grid.specs.InUse.{signed_exact};
 
 use crate::axes::StepSpace;
 use grid::{read_figures, write_figures};

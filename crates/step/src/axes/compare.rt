@@ -3,7 +3,7 @@ ghost use Rattle.std.specs.Prelude.{◌≡◌, take};
 ghost use Rattle.step.specs.Space.{step_meaning, axis_line};
 ghost use Rattle.std.proofs.Common.{arith};
 ghost use Rattle.grid.specs.Bits.{signed_bits};
-ghost use Rattle.grid.proofs.InUse.{lawful_rules};
+ghost use Rattle.grid.specs.InUse.{lawful_rules};
 ghost use Rattle.step.specs.Laws.{step_lawful};
 
 use crate::axes::StepSpace;

@@ -1,18 +1,11 @@
-use Rattle.std.proofs.Common.{◌≡◌, false, map, sym, arith, below_more}
+use Rattle.std.proofs.Common.{map, refl, ◌∙◌, arith, rules}
+use Rattle.std.proofs.lemmas.Iterator.{YieldsList-from_range}
+use Rattle.std.proofs.lemmas.Iterator.Search.{all_from_yields_List}
 use Rattle.grid.specs.Space.{admits_at}
-use Rattle.grid.proofs.Tests.{all_below_from, all_below_fails}
+use Rattle.grid.specs.Tests.{all_below_range}
 use Rattle.grid.proofs.compare.admits_below.Goals as goal
-
-pub returns-then-not-admits_at : goal.returns-then-not-admits_at
-returns-then-not-admits_at g c =
-    let test = admits_at g.A.Figure.Figure.bits (map g.A.Axis.line c.args.axes.now) c.args.p.now in
-    let fails : test c.loop-i.i ≡ false = cc in
-    sym (all_below_fails test c.args.n c.loop-i.i c.loop-i-test.true fails)
-
-pub loop-i-preserved : goal.loop-i-preserved
-loop-i-preserved g c = below_more _ _ c.loop-i.invariant (cc)
 
 pub returns : goal.returns
 returns g c =
     let test = admits_at g.A.Figure.Figure.bits (map g.A.Axis.line c.args.axes.now) c.args.p.now in
-    sym (all_below_from test c.args.n (λ k l. c.loop-i.invariant k (omega arith)))
+    all_from_yields_List test _ _ _ c.all.ensures.ran (YieldsList-from_range 0 c.args.n c.args.n refl (omega arith)) (λ x b q k. search rules) ∙ all_below_range test c.args.n

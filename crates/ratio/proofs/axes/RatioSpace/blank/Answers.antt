@@ -1,6 +1,6 @@
 use Rattle.std.proofs.Common.{◌*◌, sym, ◌∙◌}
 use Rattle.grid.specs.Bits.{unsigned_bits}
-use Rattle.grid.proofs.InUse.{unsigned_exact, zeros_read}
+use Rattle.grid.specs.InUse.{unsigned_exact, zeros_read}
 use Rattle.ratio.proofs.axes.RatioSpace.blank.Goals as goal
 
 pub returns : goal.returns

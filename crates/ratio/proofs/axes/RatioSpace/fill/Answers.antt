@@ -2,7 +2,7 @@ use Rattle.std.proofs.Common.{◌≡◌, map, length, ap, ◌∙◌, arith, rule
 use Rattle.std.specs.List.{range_with_len}
 use Rattle.grid.specs.Bits.{unsigned_bits}
 use Rattle.grid.specs.Bytes.{byte_at}
-use Rattle.grid.proofs.InUse.{unsigned_exact, unsigned_zero_held, writable_rules}
+use Rattle.grid.specs.InUse.{unsigned_exact, unsigned_zero_held, writable_rules}
 use Rattle.ratio.specs.Space.{axis_line}
 use Rattle.ratio.proofs.axes.RatioSpace.fill.Goals as goal
 

@@ -1,6 +1,6 @@
 use Rattle.std.proofs.Common.{arith, rules}
 use Rattle.grid.specs.Bits.{unsigned_bits}
-use Rattle.grid.proofs.InUse.{lines_counted}
+use Rattle.grid.specs.InUse.{lines_counted}
 use Rattle.ratio.specs.Space.{axis_line}
 use Rattle.ratio.proofs.axes.RatioSpace.rules.Goals as goal
 

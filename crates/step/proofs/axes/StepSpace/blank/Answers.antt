@@ -1,6 +1,6 @@
 use Rattle.std.proofs.Common.{◌*◌, sym, ◌∙◌}
 use Rattle.grid.specs.Bits.{signed_bits}
-use Rattle.grid.proofs.InUse.{signed_exact, zeros_read}
+use Rattle.grid.specs.InUse.{signed_exact, zeros_read}
 use Rattle.step.proofs.axes.StepSpace.blank.Goals as goal
 
 pub returns : goal.returns

@@ -2,7 +2,7 @@ use Rattle.std.proofs.Common.{◌≡◌, map, length, ap, ◌∙◌, arith, rule
 use Rattle.std.specs.List.{range_with_len}
 use Rattle.grid.specs.Bits.{signed_bits}
 use Rattle.grid.specs.Bytes.{byte_at}
-use Rattle.grid.proofs.InUse.{signed_exact, signed_zero_held, writable_rules}
+use Rattle.grid.specs.InUse.{signed_exact, signed_zero_held, writable_rules}
 use Rattle.step.specs.Space.{axis_line}
 use Rattle.step.proofs.axes.StepSpace.fill.Goals as goal
 

@@ -1,6 +1,6 @@
 use Rattle.std.proofs.Common.{arith, rules}
 use Rattle.grid.specs.Bits.{signed_bits}
-use Rattle.grid.proofs.InUse.{lines_counted}
+use Rattle.grid.specs.InUse.{lines_counted}
 use Rattle.step.specs.Space.{axis_line}
 use Rattle.step.proofs.axes.StepSpace.rules.Goals as goal
 

@@ -8,7 +8,7 @@ use Rattle.space.specs.Meaning.{Lawful}
 use Rattle.grid.specs.Bits.{Bits}
 use Rattle.grid.specs.Line.{Line, LineLawful}
 use Rattle.grid.specs.Space.{unused, line_at, figure_at, admits_at, no_worse_at, covers_at, box_at, grid_meaning}
-use Rattle.grid.proofs.Tests.{all_below_each, all_below_from}
+use Rattle.grid.specs.Tests.{all_below_each, all_below_from}
 
 -- an objective that is not there keeps the laws
 unused_lawful : {F : Type 0} (B : Bits F) → LineLawful (unused B)

@@ -10,8 +10,8 @@ use Rattle.word.specs.Word.{number_at}
 use Rattle.grid.specs.Bytes.{all_held, figures_read, sextuple, zero_from}
 use Rattle.grid.specs.Line.{Line, LineLawful}
 use Rattle.grid.specs.Space.{admits_at, figure_at, grid_meaning}
-use Rattle.grid.proofs.Laws.{lawful_grid, past_the_last}
-use Rattle.grid.proofs.Tests.{all_below_each, all_below_from}
+use Rattle.grid.specs.Laws.{lawful_grid, past_the_last}
+use Rattle.grid.specs.Tests.{all_below_each, all_below_from}
 
 -- the laws of the two kinds of figures
 pub signed_exact : Exact signed_bits

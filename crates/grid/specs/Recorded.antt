@@ -10,7 +10,7 @@ use Rattle.space.specs.Recording.{Faithful}
 use Rattle.grid.specs.Bits.{Bits, Exact}
 use Rattle.grid.specs.Space.{figure_at}
 use Rattle.grid.specs.Bytes.{figures_read, byte_at, all_held, zero_from, sextuple, grid_recording}
-use Rattle.grid.proofs.Tests.{all_below_each}
+use Rattle.grid.specs.Tests.{all_below_each}
 
 -- the four bytes of a place, by their number
 quarter : (bs : List ℕ) (i j : ℕ) → j < 4 → get_or (get_or bs (4 * i) 0 ∷ get_or bs (4 * i + 1) 0 ∷ get_or bs (4 * i + 2) 0 ∷ get_or bs (4 * i + 3) 0 ∷ []) j 0 ≡ get_or bs (4 * i + j) 0

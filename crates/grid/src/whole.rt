@@ -1,0 +1,28 @@
+// A space of one to six objectives, each divided by a rule of its own.
+ghost use Rattle.std.specs.Prelude.{◌≡◌, ◌≤◌, ⊤, length};
+
+mod bytes;
+mod make;
+mod questions;
+
+use std::alloc::AllocError;
+
+// The rules in front are in use, one an objective; past them stand rules that are never asked.
+pub struct Grid<A> {
+    axes: [A; 6],
+    objectives: usize,
+    ghost few: { (1 ≤ objectives) × (objectives ≤ 6) × (length axes ≡ 6) },
+}
+
+// No derive takes a type that has both a parameter and a ghost field.
+impl<A: Copy> Copy for Grid<A> {}
+
+impl<A: Copy> Clone for Grid<A> {
+    ghost is_clone = { λ s r. r ≡ s };
+
+    ghost is_infallible = { λ _. ⊤ };
+
+    fn clone(&self) -> Result<Grid<A>, AllocError> {
+        Ok(*self)
+    }
+}
