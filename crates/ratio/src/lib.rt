@@ -2,12 +2,10 @@
 // A greater figure is better, and one figure covers another that is greater by no more than the per cent.
 #![tactic(auto)]
 
-mod axes;
 mod edges;
 mod rule;
 mod scaling;
 
-pub use axes::RatioSpace;
 pub use edges::edges_enclose;
-pub use rule::RatioAxis;
+pub use rule::{RatioAxis, RatioSpace};
 pub use scaling::Scale;

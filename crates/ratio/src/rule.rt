@@ -8,7 +8,7 @@ mod halving;
 
 use crate::edges::{MOST, fill_edges};
 use crate::scaling::Scale;
-use grid::Axis;
+use grid::{Axis, Grid};
 
 // A scale with the edges of its boxes: as many as the extent stand in the table, and past them nothing is said.
 // The scale is sound, so the extent is at most the table's length.
@@ -21,6 +21,9 @@ pub struct RatioAxis {
     ghost counted: { extent ≡ extent_of scale },
     ghost filled: { (k : ℕ) → k < extent → slice_index edges k ≡ edge scale.per_cent k },
 }
+
+// A space of one to six objectives, each divided by a ratio rule of its own.
+pub type RatioSpace = Grid<RatioAxis>;
 
 impl Axis for RatioAxis {
     type Figure = u32;

@@ -2,10 +2,8 @@
 // One figure covers another that is better by less than the width.
 #![tactic(auto)]
 
-mod axes;
 mod rule;
 mod scaling;
 
-pub use axes::StepSpace;
-pub use rule::StepAxis;
+pub use rule::{StepAxis, StepSpace};
 pub use scaling::{Direction, Scale};

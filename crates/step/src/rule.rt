@@ -4,7 +4,7 @@ ghost use Rattle.step.specs.Rule.{step_sound, step_line};
 ghost use Rattle.step.specs.Laws.{step_lawful};
 
 use crate::scaling::Scale;
-use grid::Axis;
+use grid::{Axis, Grid};
 
 // A sound scale.
 #[derive(Clone, Copy)]
@@ -12,6 +12,9 @@ pub struct StepAxis {
     scale: Scale,
     ghost sound: { step_sound scale ≡ true },
 }
+
+// A space of one to six objectives, each divided by a step rule of its own.
+pub type StepSpace = Grid<StepAxis>;
 
 impl Axis for StepAxis {
     type Figure = i32;
