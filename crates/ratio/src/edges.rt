@@ -9,10 +9,9 @@ use crate::scaling::Scale;
 pub(crate) const MOST: usize = 1024;
 
 // Each figure from 1 on is at least the edge of its box and below the next, and that is so of no other box.
-pub fn edges_enclose() -> u8
+pub fn edges_enclose()
     ensures { EdgesEnclose }
 {
-    0
 }
 
 // The edge after this one: at least one more, and the per cent more where that is greater.
@@ -30,14 +29,12 @@ pub(crate) fn fill_edges(scale: Scale, edges: &mut [u32; MOST]) -> Option<u32>
     ensures filled { (k : ℕ) → k < extent_of scale → k < 1024 → slice_index edges.new k ≡ edge scale.per_cent k }
 {
     let mut edge = 1;
-    let mut count = 0;
-    while edge <= scale.ceiling {
-        if count == MOST {
-            return None;
+    for count in 0..MOST {
+        if edge > scale.ceiling {
+            return Some(count as u32);
         }
         edges[count] = edge;
         edge = next_edge(scale.per_cent, edge);
-        count += 1;
     }
-    Some(count as u32)
+    (edge > scale.ceiling).then_some(MOST as u32)
 }

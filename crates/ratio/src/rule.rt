@@ -52,7 +52,7 @@ impl Axis for RatioAxis {
     }
 
     fn admits(&self, v: u32) -> bool {
-        1 <= v && v <= self.scale.ceiling
+        (1..=self.scale.ceiling).contains(&v)
     }
 
     fn no_worse(&self, v: u32, w: u32) -> bool {

@@ -14,6 +14,6 @@ impl Scale {
     pub(crate) fn is_in_range(&self) -> bool
         ensures { result ≡ in_range self.now }
     {
-        1 <= self.per_cent && self.per_cent <= 100 && 1 <= self.ceiling && self.ceiling <= 1_000_000
+        (1..=100).contains(&self.per_cent) && (1..=1_000_000).contains(&self.ceiling)
     }
 }

@@ -45,20 +45,14 @@ pub fn read_or_blank<S: Recorded>(space: &S, bytes: &[u8]) -> S::Point
     ensures value { result ≡ read_point (S.Recorded.recording space.now) bytes.now }
     ensures four_each { FourEach (S.Space.meaning space.now) (S.Recorded.recording space.now) }
 {
-    match space.read(bytes) {
-        Ok(point) => point,
-        Err(unread) => unread.blank,
-    }
+    space.read(bytes).unwrap_or_else(|unread| unread.blank)
 }
 
 // The point that zero bytes give: what reading answers to no bytes, since every point takes some.
 pub fn blank<S: Recorded>(space: &S) -> S::Point
     ensures { result ≡ blank_point (S.Recorded.recording space.now) }
 {
-    match space.read(&[]) {
-        Ok(point) => point,
-        Err(unread) => unread.blank,
-    }
+    space.read(&[]).unwrap_or_else(|unread| unread.blank)
 }
 
 // Writes the point over the front of a longer part.

@@ -6,8 +6,8 @@ ghost use Rattle.step.specs.Rule.{height, box_of, extent_of, on_grid, step_sound
 // Which figures are better.
 #[derive(Clone, Copy, PartialEq, Eq, Debug)]
 pub enum Direction {
-    LargerIsBetter,
-    SmallerIsBetter,
+    LargerIsBetter = 0,
+    SmallerIsBetter = 1,
 }
 
 impl Direction {
@@ -15,10 +15,7 @@ impl Direction {
     pub fn number(&self) -> u8
         ensures { result ≡ direction_number self.now }
     {
-        match self {
-            Direction::LargerIsBetter => 0,
-            Direction::SmallerIsBetter => 1,
-        }
+        *self as u8
     }
 }
 
@@ -37,8 +34,7 @@ impl Scale {
         ensures { result ≡ step_sound self.now }
     {
         self.low <= self.high
-            && 1 <= self.step
-            && self.step <= 2_147_483_647
+            && (1..=2_147_483_647).contains(&self.step)
             && self.last_box() < 1024
     }
 
