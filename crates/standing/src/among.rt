@@ -1,5 +1,5 @@
 // What stands among the trials of a list. A trial off the grid counts for nothing.
-ghost use Rattle.std.specs.Prelude.{◌<◌, ◌≤◌, length, Decides};
+ghost use Rattle.std.specs.Prelude.{◌<◌, length, Decides};
 ghost use Rattle.standing.specs.Standing.{OnGrid, Pair, NoneOf, Stands, TrialStands, BoxStands, OpensBox, Related};
 
 use crate::compare::{Relation, related};
@@ -9,21 +9,21 @@ use space::{Space, Trial};
 fn on_grid<S: Space>(space: &S, trials: &[Trial<S::Point>], i: usize) -> bool
     ensures { Decides result (OnGrid (S.Space.meaning space.now) trials.now i) }
 {
-    i < trials.len() && space.admits(&trials[i].point)
+    trials.get(i).is_some_and(|trial| space.admits(&trial.point))
 }
 
-// Whether trial k is so related to trial i.
-fn pair_related<S: Space>(
+// Whether trial k is on the grid and so related to trial i.
+fn meets<S: Space>(
     space: &S,
     trials: &[Trial<S::Point>],
     relation: Relation,
     k: usize,
     i: usize,
 ) -> bool
-    requires { (k < length trials.now) × (i < length trials.now) }
-    ensures { Decides result (Pair (Related relation (S.Space.meaning space.now)) trials.now k i) }
+    requires { i < length trials.now }
+    ensures { Decides result (OnGrid (S.Space.meaning space.now) trials.now k × Pair (Related relation (S.Space.meaning space.now)) trials.now k i) }
 {
-    related(space, relation, &trials[k].point, &trials[i].point)
+    on_grid(space, trials, k) && related(space, relation, &trials[k].point, &trials[i].point)
 }
 
 // Whether none of the first n trials is on the grid and so related to trial i.
@@ -34,15 +34,10 @@ fn none_of<S: Space>(
     n: usize,
     i: usize,
 ) -> bool
-    requires { (n ≤ length trials.now) × (i < length trials.now) }
+    requires { i < length trials.now }
     ensures { Decides result (NoneOf (S.Space.meaning space.now) (Related relation (S.Space.meaning space.now)) trials.now n i) }
 {
-    for k in 0..n {
-        if on_grid(space, trials, k) && pair_related(space, trials, relation, k, i) {
-            return false;
-        }
-    }
-    true
+    !(0..n).any(|k| meets(space, trials, relation, k, i))
 }
 
 // Whether trial i is on the grid and none on the grid is so related to it.

@@ -1,5 +1,5 @@
 // How two points and their boxes compare.
-ghost use Rattle.std.specs.Prelude.{◌≡◌, ℕ, ◌<◌, false, Decides};
+ghost use Rattle.std.specs.Prelude.{◌≡◌, ℕ, ◌<◌, false, Decides, nat_le};
 ghost use Rattle.space.specs.Boxes.{Dominates, AtLeast, SameBox, BoxDominates};
 ghost use Rattle.standing.specs.Standing.{Related};
 
@@ -20,17 +20,19 @@ pub fn dominates<S: Space>(space: &S, p: &S::Point, q: &S::Point) -> bool
     space.no_worse(p, q) && !space.no_worse(q, p)
 }
 
+// Whether p's box is at least q's in objective i.
+fn at_least_in<S: Space>(space: &S, i: usize, p: &S::Point, q: &S::Point) -> bool
+    ensures { result ≡ nat_le ((S.Space.meaning space.now).box i q.now) ((S.Space.meaning space.now).box i p.now) }
+{
+    space.box_number(i, p) >= space.box_number(i, q)
+}
+
 // Whether p's box is at least q's in every objective; where it is not, some objective shows it.
 fn at_least<S: Space>(space: &S, p: &S::Point, q: &S::Point) -> bool
     ensures test { Decides result (AtLeast (S.Space.meaning space.now) p.now q.now) }
     ensures shown { result ≡ false → (i : ℕ) × ((S.Space.meaning space.now).box i p.now < (S.Space.meaning space.now).box i q.now) }
 {
-    for i in 0..space.objectives() {
-        if space.box_number(i, p) < space.box_number(i, q) {
-            return false;
-        }
-    }
-    true
+    (0..space.objectives()).all(|i| at_least_in(space, i, p, q))
 }
 
 // Whether p's box dominates q's: at least as great in every objective, and greater in one.

@@ -1,23 +1,28 @@
-use Rattle.std.proofs.Common.{refl, arith, below_more}
+use Rattle.std.proofs.Common.{◌≡◌, ℕ, ◌+◌, ◌<◌, Bool, true, false, not, length, get_or, refl, subst, arith, rules}
+use Rattle.std.specs.Bool.{MatchBool}
+use Rattle.std.specs.List.{AllWithin, HoldsAt, range_with_len}
+use Rattle.std.specs.Prelude.{Decides}
 use Rattle.std.proofs.lemmas.Bool.{false≢true}
-use Rattle.std.proofs.lemmas.Bool.Decides.{not_from_Decides}
+use Rattle.std.proofs.lemmas.Iterator.{YieldsList-from_range, cases_from_any}
+use Rattle.std.proofs.lemmas.List.FromFn.{length-range_with_len, get_or-range_with_len}
+use Rattle.standing.specs.Standing.{OnGrid, Pair, Related}
 use Rattle.standing.proofs.among.none_of.Goals as goal
-use Rattle.standing.proofs.among.none_of.Goals.{else-on_grid-via-then-on_grid+else-pair_related, else-on_grid-via-else-on_grid}
 
-pub returns-then-pair_related : goal.returns-then-pair_related
-returns-then-pair_related g c = (
-  λ e. absurd (false≢true e),
-  λ h. absurd (h c.loop-k.k c.loop-k-test.true (c.on_grid.ensures.0 c.if-on_grid.true) (c.pair_related.ensures.0 c.if-pair_related.true)),
+-- the opposite of what `any` answers over the first n places
+none : (n : ℕ) (Met : ℕ → Type 0) (r : Bool) → MatchBool r ((k : ℕ) × (k < length (range_with_len 0 n)) × HoldsAt Met (range_with_len 0 n) k) (AllWithin (λ k. Met k → ⊥) (range_with_len 0 n) 0 (length (range_with_len 0 n))) → Decides (not r) ((k : ℕ) → k < n → Met k → ⊥)
+none n Met true h =
+    let inside : h.0 < n = omega (arith, h.1, length-range_with_len 0 n) in
+    let place : get_or (range_with_len 0 n) h.0 0 ≡ h.0 = omega (arith, get_or-range_with_len 0 n h.0 0 inside) in
+    (λ e. absurd (false≢true e), λ no. absurd (no h.0 inside (subst Met place (h.2 0))))
+none n Met false h = (
+  λ _ k l m.
+    let place : k ≡ get_or (range_with_len 0 n) k 0 = omega (arith, get_or-range_with_len 0 n k 0 l) in
+    h k 0 (omega arith) (omega (arith, length-range_with_len 0 n)) (subst Met place m),
+  λ _. refl,
 )
 
-pub loop-k-preserved : goal.loop-k-preserved
-loop-k-preserved g c =
-    below_more _ _ c.loop-k.invariant
-    (λ o p.
-    elim c.else-on_grid.branch [
-      | else-on_grid-via-then-on_grid+else-pair_related w ↦ not_from_Decides _ w.pair_related.ensures w.if-pair_related.false p
-      | else-on_grid-via-else-on_grid w ↦ not_from_Decides _ c.on_grid.ensures w.if-on_grid.false o
-    ])
-
 pub returns : goal.returns
-returns g c = (λ _ k l. c.loop-k.invariant k (omega arith), λ _. refl)
+returns g c =
+    let Met : ℕ → Type 0 = λ k. OnGrid (g.S.Space.meaning c.args.space.now) c.args.trials.now k × Pair (Related c.args.relation (g.S.Space.meaning c.args.space.now)) c.args.trials.now k c.args.i in
+    let said = none c.args.n Met c.any.result (cases_from_any _ _ c.any.result Met (λ k. Met k → ⊥) c.any.ensures.ran (YieldsList-from_range 0 c.args.n c.args.n refl (omega arith)) (λ k q h. search rules) (λ k q h. search rules)) in
+    (λ e k l o p. said.0 e k l (o, p), λ h. said.1 (λ k l m. h k l m.0 m.1))
