@@ -6,6 +6,7 @@ ghost use Rattle.standing.specs.Standing.{Related};
 use space::Space;
 
 // What one point may be to another: it dominates it, its box dominates the other's, or the boxes are the same.
+// An enum and not a closure: contracts name the relation by it.
 #[derive(Clone, Copy)]
 pub(crate) enum Relation {
     Point,

@@ -1,4 +1,4 @@
-use Rattle.std.proofs.Common.{◌≡◌, ℕ, ◌+◌, ◌<◌, ◌≤◌, Bool, true, false, length, get_or, refl, subst, arith, rules}
+use Rattle.std.proofs.Common.{◌≡◌, ℕ, ◌<◌, ◌≤◌, Bool, true, false, length, get_or, refl, subst, arith, rules}
 use Rattle.std.specs.Bool.{MatchBool}
 use Rattle.std.specs.List.{AllWithin, HoldsAt, range_with_len}
 use Rattle.std.specs.Prelude.{Decides}
@@ -16,16 +16,16 @@ module _ {P : Type 0} (M : Meaning P) (law : Lawful M) (p q : P) where
   told true h = (
     (
       λ _. at_least_from M law p q (λ i l.
-        let place : get_or (range_with_len 0 M.objectives) i 0 ≡ i = omega (arith, get_or-range_with_len 0 M.objectives i 0 l) in
-        subst (λ k. M.box k q ≤ M.box k p) place (h i 0 (omega arith) (omega (arith, length-range_with_len 0 M.objectives)))),
+          let place : get_or (range_with_len 0 M.objectives) i 0 ≡ i = omega (arith, get_or-range_with_len 0 M.objectives i 0 l) in
+          subst (λ k. M.box k q ≤ M.box k p) place (h i 0 (omega arith) (omega (arith, length-range_with_len 0 M.objectives)))),
       λ _. refl,
     ),
     λ e. absurd (true≢false e),
   )
   told false h =
-    let i = get_or (range_with_len 0 M.objectives) h.0 0 in
-    let worse : M.box i p < M.box i q = h.2 0 in
-    ((λ e. absurd (false≢true e), λ least. absurd (omega (arith, least i))), λ _. (i, worse))
+      let i = get_or (range_with_len 0 M.objectives) h.0 0 in
+      let worse : M.box i p < M.box i q = h.2 0 in
+      ((λ e. absurd (false≢true e), λ least. absurd (omega (arith, least i))), λ _. (i, worse))
 
 pub returns : goal.returns
 returns g c =

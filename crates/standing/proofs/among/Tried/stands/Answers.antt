@@ -1,4 +1,4 @@
-use Rattle.standing.proofs.among.stands.Goals as goal
+use Rattle.standing.proofs.among.Tried.stands.Goals as goal
 
 pub returns-then-on_grid : goal.returns-then-on_grid
 returns-then-on_grid g c =

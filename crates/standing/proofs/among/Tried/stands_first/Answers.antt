@@ -1,4 +1,4 @@
-use Rattle.standing.proofs.among.stands_first.Goals as goal
+use Rattle.standing.proofs.among.Tried.stands_first.Goals as goal
 
 pub returns-then-stands : goal.returns-then-stands
 returns-then-stands g c =

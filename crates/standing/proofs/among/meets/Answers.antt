@@ -1,9 +1,0 @@
-use Rattle.standing.specs.Standing.{Related}
-use Rattle.standing.proofs.Places.{decides_pair}
-use Rattle.standing.proofs.among.meets.Goals as goal
-
-pub returns-then-on_grid : goal.returns-then-on_grid
-returns-then-on_grid g c =
-    let there = c.on_grid.ensures.0 c.if-on_grid.true in
-    let pair = decides_pair c.args.trials.now c.args.k c.args.i there.0 c.requires (λ t u. Related c.args.relation (g.S.Space.meaning c.args.space.now) t.point u.point) c.index-trials-k.result c.index-trials-i.result c.related.result c.related.ensures in
-    (λ e. (there, pair.0 e), λ h. pair.1 h.1)
