@@ -4,3 +4,4 @@ pub mod Runs
 pub mod Strange
 pub mod Turns
 pub mod Blocks
+pub mod Listed

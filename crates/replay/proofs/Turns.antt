@@ -37,6 +37,10 @@ module _ {P X : Type 0} (M : Meaning P) (Reading : (List ℕ → P) → Type 0) 
             subst (λ n. Left One M reads n (e ∷ h.events) before y) (sym ran.same_rows) all;
       }
 
+-- calls that are asked for alike, and lent the same
+pub asked_alike : {A C : Type 0} (call : A → ℕ → ℕ → ℕ → ℕ → C) (ask : A) (own own' other other' long long' wide wide' : ℕ) → own ≡ own' → other ≡ other' → long ≡ long' → wide ≡ wide' → call ask own other long wide ≡ call ask own' other' long' wide'
+asked_alike call ask own own' other other' long long' wide wide' e f h i = cc
+
 -- an answer is written beside its call
 module _ {A : Type 0} (turns : List (Turn A)) (i : ℕ) (t d : Turn A) (same : t.ask ≡ (get_or turns i d).ask) where
   pub asks_kept : asks_in (set turns i t) ≡ asks_in turns

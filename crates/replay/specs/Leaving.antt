@@ -53,6 +53,10 @@ pub record Lendings : Type 0 where
 abbrev pub LeavesBoth : {P : Type 0} → Meaning P → Recording P → ℕ → List (Trial P) → Call P → Lendings → Lendings → Type 0
 LeavesBoth M R rows ms call before after = Leaves M rows ms call before.list after.list × LeavesBlock M R rows ms call before.block after.block
 
+-- what one call leaves in both, where no call is lent the block
+abbrev pub LeavesList : {P : Type 0} → Meaning P → ℕ → List (Trial P) → Call P → Lendings → Lendings → Type 0
+LeavesList M rows ms call before after = Leaves M rows ms call before.list after.list × (after.block ≡ before.block)
+
 -- all calls, one after the other; the newest is first, and One says what one call leaves of what it was lent
 abbrev pub Left : {P X : Type 0} → (ℕ → List (Trial P) → Call P → X → X → Type 0) → Meaning P → (List ℕ → P) → ℕ → List (Event P) → X → X → Type 0
 Left One M reads rows [] before after = after ≡ before

@@ -4,11 +4,10 @@
 #![tactic(auto)]
 
 mod asking;
-mod every_kind;
+mod kinds;
 mod recorded;
 mod replaying;
 mod running;
 
 pub use asking::{Ask, RecordedAsk, Turn};
-pub use every_kind::replay_recorded;
-pub use replaying::replay;
+pub use replaying::{replay, replay_recorded};

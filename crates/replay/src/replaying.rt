@@ -1,39 +1,61 @@
 // A whole list of calls.
-ghost use Rattle.std.specs.Prelude.{◌≡◌, map, length, Some, None, IfOk, MatchResult, OnErr};
+ghost use Rattle.std.specs.Prelude.{◌≡◌, [], map, length, Some, None, IfOk, MatchResult, OnErr};
 ghost use Rattle.history.specs.Checks.{making_denial};
 ghost use Rattle.archive.specs.Lent.{lending};
 ghost use Rattle.archive.specs.Standing.{Begins};
-ghost use Rattle.replay.specs.Asking.{answers_in, asks_in, call_of};
-ghost use Rattle.replay.specs.Replaying.{ReplayRight};
+ghost use Rattle.replay.specs.Asking.{answers_in, asks_in, call_of, recorded_call_of};
+ghost use Rattle.replay.specs.Replaying.{RecordedReplayRight, ReplayRight, ReplayedAs};
 
-use crate::asking::{Ask, Turn};
-use crate::running::run;
+use crate::asking::{Ask, RecordedAsk, Turn};
+use crate::kinds::Asked;
 use archive::{Archive, Refused};
-use space::{Space, Trial};
+use space::{Recorded, Space, Trial};
 
 // Runs the calls one after the other on an archive that has just been made, and writes down each answer.
-fn run_all<S: Space>(
+fn run_all<S: Space, A: Asked<S>>(
     archive: &mut Archive<S>,
     own: &mut [Trial<S::Point>],
     strange: &mut [Trial<S::Point>],
     list: &mut [u32],
-    turns: &mut [Turn<Ask<S::Point>>],
+    block: &mut [u8],
+    turns: &mut [Turn<A>],
 )
-    requires own_len { length own.old ≡ (lending archive.old own.old list.old).rows }
-    requires begins { Begins (S.Space.meaning archive.old.space) (lending archive.old own.old list.old).rows (lending archive.old own.old list.old).count own.old }
+    requires own_len { length own.old ≡ (lending archive.old own.old []).rows }
+    requires begins { Begins (S.Space.meaning archive.old.space) (lending archive.old own.old []).rows (lending archive.old own.old []).count own.old }
     ensures space { archive.new.space ≡ archive.old.space }
     ensures strange { strange.new ≡ strange.old }
     ensures asks { asks_in turns.new ≡ asks_in turns.old }
-    ensures right { ReplayRight (S.Space.meaning archive.old.space) (map (call_of (length own.old) (length strange.old) (length list.old)) (asks_in turns.old)) (answers_in turns.new) list.old (lending archive.new own.new list.new) }
+    ensures right { ReplayedAs (S.Space.meaning archive.old.space) (A.Asked.reading archive.old.space) (A.Asked.leaves archive.old.space) (map (λ ask. A.Asked.call ask (length own.old) (length strange.old) (length list.old) (length block.old)) (asks_in turns.old)) (answers_in turns.new) (record { list = list.old; block = block.old }) (lending archive.new own.new []) (record { list = list.new; block = block.new }) }
 {
     for i in 0..turns.len() {
         let turn = &mut turns[i];
-        turn.answer = Some(run(archive, own, strange, list, &turn.ask));
+        turn.answer = Some(turn.ask.run(archive, own, strange, list, block));
     }
 }
 
-// The replay that `replay` hands on, with what holds of it.
-fn play<S: Space>(
+// A replay of either kind.
+fn play<S: Space, A: Asked<S>>(
+    space: S,
+    own: &mut [Trial<S::Point>],
+    strange: &mut [Trial<S::Point>],
+    list: &mut [u32],
+    block: &mut [u8],
+    turns: &mut [Turn<A>],
+) -> Result<Archive<S>, Refused<S>>
+    ensures made { MatchResult result (λ a. (making_denial (length own.old) ≡ None) × (a.space ≡ space)) (λ e. (making_denial (length own.old) ≡ Some e.denial) × (e.space ≡ space)) }
+    ensures right { IfOk result (λ a. ReplayedAs (S.Space.meaning space) (A.Asked.reading space) (A.Asked.leaves space) (map (λ ask. A.Asked.call ask (length own.old) (length strange.old) (length list.old) (length block.old)) (asks_in turns.old)) (answers_in turns.new) (record { list = list.old; block = block.old }) (lending a own.new []) (record { list = list.new; block = block.new })) }
+    ensures untouched { OnErr result ((own.new ≡ own.old) × (list.new ≡ list.old) × (block.new ≡ block.old) × (turns.new ≡ turns.old)) }
+    ensures strange { strange.new ≡ strange.old }
+    ensures asks { asks_in turns.new ≡ asks_in turns.old }
+{
+    let mut archive = Archive::new(space, own)?;
+    run_all(&mut archive, own, strange, list, block, turns);
+    Ok(archive)
+}
+
+// A replay of calls that are lent no block, told of the list alone. `replay` hands it on, so that it has no proof file of its
+// own: a wrong edit of it is then refused in its code.
+fn play_listed<S: Space>(
     space: S,
     own: &mut [Trial<S::Point>],
     strange: &mut [Trial<S::Point>],
@@ -46,9 +68,7 @@ fn play<S: Space>(
     ensures strange { strange.new ≡ strange.old }
     ensures asks { asks_in turns.new ≡ asks_in turns.old }
 {
-    let mut archive = Archive::new(space, own)?;
-    run_all(&mut archive, own, strange, list, turns);
-    Ok(archive)
+    play(space, own, strange, list, &mut [], turns)
 }
 
 // Makes an archive of the space over its own rows, runs the calls on it and writes the answer of each beside it. A call that
@@ -66,5 +86,23 @@ pub fn replay<S: Space>(
     ensures strange { strange.new ≡ strange.old }
     ensures asks { asks_in turns.new ≡ asks_in turns.old }
 {
-    play(space, own, strange, list, turns)
+    play_listed(space, own, strange, list, turns)
+}
+
+// The same over a recorded space, for calls of all five kinds.
+pub fn replay_recorded<S: Recorded>(
+    space: S,
+    own: &mut [Trial<S::Point>],
+    strange: &mut [Trial<S::Point>],
+    list: &mut [u32],
+    block: &mut [u8],
+    turns: &mut [Turn<RecordedAsk<'_, S::Point>>],
+) -> Result<Archive<S>, Refused<S>>
+    ensures made { MatchResult result (λ a. (making_denial (length own.old) ≡ None) × (a.space ≡ space)) (λ e. (making_denial (length own.old) ≡ Some e.denial) × (e.space ≡ space)) }
+    ensures right { IfOk result (λ a. RecordedReplayRight (S.Space.meaning space) (S.Recorded.recording space) (map (recorded_call_of (length own.old) (length strange.old) (length list.old) (length block.old)) (asks_in turns.old)) (answers_in turns.new) (record { list = list.old; block = block.old }) (lending a own.new []) (record { list = list.new; block = block.new })) }
+    ensures untouched { OnErr result ((own.new ≡ own.old) × (list.new ≡ list.old) × (block.new ≡ block.old) × (turns.new ≡ turns.old)) }
+    ensures strange { strange.new ≡ strange.old }
+    ensures asks { asks_in turns.new ≡ asks_in turns.old }
+{
+    play(space, own, strange, list, block, turns)
 }
