@@ -1,5 +1,5 @@
 -- One call over the archive's own rows or over strange ones, as it is asked for.
-use Rattle.std.proofs.Common.{◌≡◌, ℕ, List, length, take, Option, Result, sym, refl, ap, ◌∙◌, subst}
+use Rattle.std.proofs.Common.{◌≡◌, ℕ, List, length, take, Option, Ok, Err, Result, MatchResult, sym, refl, ap, ◌∙◌, subst}
 use Rattle.space.specs.Meaning.{Meaning}
 use Rattle.space.specs.declared.tagged.Trial.{Trial}
 use Rattle.history.specs.declared.answers.Answer.{Answer}
@@ -49,6 +49,11 @@ module _ {P : Type 0} (M : Meaning P) (a : Lent P) (own : List (Trial P)) (whole
   -- which leaves the front that it was lent
   pub list_strange_same : (r : Result ℕ Denial) (after : List ℕ) → ListRight M a r after → after ≡ a.list
   list_strange_same r after right = right.tags ∙ ap (listed_over a) (right.value ∙ sym (strange_is a.rows (length a.held) _ n))
+
+-- what a call was granted or denied is the answer that is told of it
+pub told_by : {A : Type 0} (granted : A → Answer) (said : Result A Denial) (r : Answer) → MatchResult said (λ x. r ≡ granted x) (λ d. r ≡ answer.Denied d) → r ≡ told granted said
+told_by granted (Ok x) r e = e
+told_by granted (Err d) r e = e
 
 -- the same call and answer under other names
 pub as_asked : {P : Type 0} (M : Meaning P) (c d : Call P) (r s : Answer) (a b : Lent P) → c ≡ d → s ≡ r → Ran M c a r b → Ran M d a s b

@@ -12,7 +12,7 @@ ghost use Rattle.replay.specs.Leaving.{Lendings};
 ghost use Rattle.replay.specs.Replaying.{RecordedRan};
 
 use crate::asking::RecordedAsk;
-use crate::running::{lent, run};
+use crate::running::{lent, run, told};
 use archive::Archive;
 use history::{Answer, Denial, Fed, FeedFault};
 use space::{Recorded, Trial};
@@ -36,20 +36,7 @@ fn feed_strange<S: Recorded>(
 fn fed(said: Result<Fed, FeedFault>) -> Answer
     ensures { result ≡ told_feed said }
 {
-    match said {
-        Ok(fed) => Answer::Fed(fed),
-        Err(fault) => Answer::Refused(fault),
-    }
-}
-
-// What a save answers, likewise.
-fn saved(said: Result<usize, Denial>) -> Answer
-    ensures { result ≡ told answer.Saved said }
-{
-    match said {
-        Ok(count) => Answer::Saved(count),
-        Err(denial) => Answer::Denied(denial),
-    }
+    said.map_or_else(Answer::Refused, Answer::Fed)
 }
 
 // A feed over so many rows.
@@ -104,10 +91,10 @@ fn run_save<S: Recorded>(
     let lent = lent(own.len(), strange.len(), rows);
     let size = size.min(block.len());
     if lent == own.len() {
-        saved(save_over(archive, own, number, block, size))
+        told(save_over(archive, own, number, block, size), Answer::Saved)
     } else {
         let (rows, _) = strange.split_at(lent);
-        saved(save_over(archive, rows, number, block, size))
+        told(save_over(archive, rows, number, block, size), Answer::Saved)
     }
 }
 

@@ -1,5 +1,5 @@
 // One call, over the archive's own rows or over strange ones.
-ghost use Rattle.std.specs.Prelude.{◌≡◌, ℕ, ◌≤◌, min, List, [], ◌++◌, length, take, drop, ◌≢◌};
+ghost use Rattle.std.specs.Prelude.{◌≡◌, ℕ, ◌≤◌, min, List, [], ◌++◌, length, take, drop, MatchResult, ◌≢◌};
 ghost use Rattle.history.specs.declared.answers.Answer.TheVariants as answer;
 ghost use Rattle.history.specs.Answers.{told};
 ghost use Rattle.history.specs.Calls.Call.{offer, audit, list as listing};
@@ -69,34 +69,12 @@ fn offer_strange<S: Space>(
     offer_over(archive, &mut strange[0..lent], list, room, trial)
 }
 
-// What an offer answers, as what any call may answer.
-fn offered(said: Result<Offered, Denial>) -> Answer
-    ensures { result ≡ told answer.Offered said }
+// What a call is granted or denied, as what any call may answer.
+pub(crate) fn told<T, F: FnOnce(T) -> Answer>(said: Result<T, Denial>, granted: F) -> Answer
+    requires { F.IsAlwaysCallable granted }
+    ensures { MatchResult said (λ x. F.post granted x result) (λ d. result ≡ answer.Denied d) }
 {
-    match said {
-        Ok(offered) => Answer::Offered(offered),
-        Err(denial) => Answer::Denied(denial),
-    }
-}
-
-// What an audit answers, likewise.
-fn audited(said: Result<Option<(usize, usize)>, Denial>) -> Answer
-    ensures { result ≡ told answer.Audited said }
-{
-    match said {
-        Ok(pair) => Answer::Audited(pair),
-        Err(denial) => Answer::Denied(denial),
-    }
-}
-
-// What a list answers, likewise.
-fn listed(said: Result<usize, Denial>) -> Answer
-    ensures { result ≡ told answer.Listed said }
-{
-    match said {
-        Ok(count) => Answer::Listed(count),
-        Err(denial) => Answer::Denied(denial),
-    }
+    said.map_or_else(Answer::Denied, granted)
 }
 
 // An offer over so many rows and so much of the list.
@@ -117,9 +95,12 @@ fn run_offer<S: Space>(
     let lent = lent(own.len(), strange.len(), rows);
     let room = room.min(list.len());
     if lent == own.len() {
-        offered(offer_over(archive, own, list, room, trial))
+        told(offer_over(archive, own, list, room, trial), Answer::Offered)
     } else {
-        offered(offer_strange(archive, strange, lent, list, room, trial))
+        told(
+            offer_strange(archive, strange, lent, list, room, trial),
+            Answer::Offered,
+        )
     }
 }
 
@@ -135,10 +116,10 @@ fn run_audit<S: Space>(
 {
     let lent = lent(own.len(), strange.len(), rows);
     if lent == own.len() {
-        audited(archive.audit(own))
+        told(archive.audit(own), Answer::Audited)
     } else {
         let (rows, _) = strange.split_at(lent);
-        audited(archive.audit(rows))
+        told(archive.audit(rows), Answer::Audited)
     }
 }
 
@@ -157,10 +138,10 @@ fn run_list<S: Space>(
     let lent = lent(own.len(), strange.len(), rows);
     let room = room.min(list.len());
     if lent == own.len() {
-        listed(list_over(archive, own, list, room))
+        told(list_over(archive, own, list, room), Answer::Listed)
     } else {
         let (rows, _) = strange.split_at(lent);
-        listed(list_over(archive, rows, list, room))
+        told(list_over(archive, rows, list, room), Answer::Listed)
     }
 }
 

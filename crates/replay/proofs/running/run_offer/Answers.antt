@@ -1,8 +1,9 @@
 use Rattle.std.proofs.Common.{◌≡◌, ◌≤◌, length, take, sym, refl, ◌∙◌, rules}
 use Rattle.std.proofs.lemmas.List.{length-take-le}
+use Rattle.history.specs.declared.answers.Answer.TheVariants as answer
 use Rattle.archive.specs.Lent.{lending}
 use Rattle.replay.proofs.Leavings.{ran_offer}
-use Rattle.replay.proofs.Runs.{as_asked, over_same, ran_offer_strange, same_offer}
+use Rattle.replay.proofs.Runs.{as_asked, over_same, ran_offer_strange, same_offer, told_by}
 use Rattle.replay.proofs.running.run_offer.Goals as goal
 
 pub returns-then-lent-own : goal.returns-then-lent-own
@@ -19,7 +20,7 @@ returns-then-lent-own g c =
     record {
       space = c.offer_over.ensures.space;
       strange = refl;
-      ran = as_asked M _ _ _ _ _ _ call c.offered.ensures
+      ran = as_asked M _ _ _ _ _ _ call (told_by answer.Offered c.offer_over.result c.told.result c.told.ensures)
           (over_same M _ _ _ (lending c.offer_over.new.archive c.offer_over.new.rows after) c.offer_over.new.rows _ after c.offer_over.ensures.rest
           (ran_offer M t (lending c.args.archive.now own (take room list)) (lending c.offer_over.new.archive c.offer_over.new.rows (take room after)) c.offer_over.result c.offer_over.ensures.right list room within refl long));
     }
@@ -41,7 +42,7 @@ returns-else-lent-own g c =
     record {
       space = c.offer_strange.ensures.space;
       strange = c.offer_strange.ensures.strange;
-      ran = as_asked M _ _ _ _ _ _ call c.offered-else-lent-own.ensures
+      ran = as_asked M _ _ _ _ _ _ call (told_by answer.Offered c.offer_strange.result c.told-else-lent-own.result c.told-else-lent-own.ensures)
           (over_same M _ _ _ (lending c.offer_strange.new.archive own list) own list c.offer_strange.new.list c.offer_strange.ensures.list
           (ran_offer_strange M (lending c.args.archive.now (take lent strange) (take room list)) own list (λ e. c.if-lent-own.false (sym rows ∙ (e ∙ sym c.requires))) t (lending c.offer_strange.new.archive (take lent strange) (take room list)) c.offer_strange.result c.offer_strange.ensures.right));
     }
