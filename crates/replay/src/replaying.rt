@@ -27,8 +27,7 @@ fn run_all<S: Space, A: Asked<S>>(
     ensures asks { asks_in turns.new ≡ asks_in turns.old }
     ensures right { ReplayedAs (S.Space.meaning archive.old.space) (A.Asked.reading archive.old.space) (A.Asked.leaves archive.old.space) (map (λ ask. A.Asked.call ask (length own.old) (length strange.old) (length list.old) (length block.old)) (asks_in turns.old)) (answers_in turns.new) (record { list = list.old; block = block.old }) (lending archive.new own.new []) (record { list = list.new; block = block.new }) }
 {
-    for i in 0..turns.len() {
-        let turn = &mut turns[i];
+    for turn in turns {
         turn.answer = Some(turn.ask.run(archive, own, strange, list, block));
     }
 }
