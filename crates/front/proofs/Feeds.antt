@@ -2,11 +2,9 @@
 use Rattle.std.proofs.Common.{◌≡◌, ℕ, List, [], length, take, Result, sym, ap, ◌∙◌, subst}
 use Rattle.space.specs.Recording.{read_point}
 use Rattle.space.specs.declared.tagged.Trial.{Trial}
-use Rattle.step.specs.declared.axes.StepSpace.{StepSpace}
-use Rattle.ratio.specs.declared.axes.RatioSpace.{RatioSpace}
 use Rattle.beside.specs.declared.pair.Beside.{Beside}
-use Rattle.step.specs.Space.{step_meaning, step_recording}
-use Rattle.ratio.specs.Space.{ratio_meaning, ratio_recording}
+use Rattle.step.specs.Space.{StepSpace, step_meaning, step_recording}
+use Rattle.ratio.specs.Space.{RatioSpace, ratio_meaning, ratio_recording}
 use Rattle.beside.specs.Pair.{meaning_of, recording_of}
 use Rattle.history.specs.declared.answers.Fed.{Fed}
 use Rattle.history.specs.declared.faults.FeedFault.{FeedFault}

@@ -4,8 +4,7 @@
 ghost use Rattle.worked.specs.Figures.{Figures};
 
 // Every worked figure of the spaces, of archives and of blocks holds.
-pub fn worked_figures() -> u8
+pub fn worked_figures()
     ensures { Figures }
 {
-    0
 }
