@@ -1,10 +1,12 @@
 // The spaces of the second archive: a rule for each place, and plain arithmetic on whole numbers.
 
+use std::array;
+
 // How many places a point has: six of each of two spaces side by side.
 pub(crate) const PLACES: usize = 12;
 
 // A point: a figure in each place.
-pub(crate) type Point = [i64; 12];
+pub(crate) type Point = [i64; PLACES];
 
 // How the figures of one place are judged.
 #[derive(Clone, Copy)]
@@ -26,7 +28,7 @@ pub(crate) enum Rule {
 }
 
 // The rules of a space, place by place.
-pub(crate) type Rules = [Rule; 12];
+pub(crate) type Rules = [Rule; PLACES];
 
 // The edge after this one.
 pub(crate) fn edge_after(per_cent: u32, edge: i64) -> i64 {
@@ -59,12 +61,10 @@ impl Rule {
                 high,
                 step,
                 ..
-            } => low <= high && *step >= 1 && *step <= 2_147_483_647 && self.extent() <= 1024,
+            } => low <= high && (1..=2_147_483_647).contains(step) && self.extent() <= 1024,
             Rule::Ratio { per_cent, ceiling } => {
-                *per_cent >= 1
-                    && *per_cent <= 100
-                    && *ceiling >= 1
-                    && *ceiling <= 1_000_000
+                (1..=100).contains(per_cent)
+                    && (1..=1_000_000).contains(ceiling)
                     && self.extent() <= 1024
             }
         }
@@ -155,66 +155,42 @@ pub(crate) fn objectives(rules: &Rules) -> usize {
 
 // Whether a point is on the grid.
 pub(crate) fn admits(rules: &Rules, point: &Point) -> bool {
-    for i in 0..PLACES {
-        if !rules[i].admits(point[i]) {
-            return false;
-        }
-    }
-    true
+    rules
+        .iter()
+        .zip(point)
+        .all(|(rule, figure)| rule.admits(*figure))
 }
 
 // The figures of a point turned so that more is better in every place.
 pub(crate) fn worths(rules: &Rules, point: &Point) -> Point {
-    let mut worths = [0; PLACES];
-    for i in 0..PLACES {
-        worths[i] = rules[i].worth(point[i]);
-    }
-    worths
+    array::from_fn(|i| rules[i].worth(point[i]))
 }
 
 // The box of a point; of a point off the grid all zeros.
 pub(crate) fn boxes(rules: &Rules, point: &Point) -> Point {
-    let mut boxes = [0; PLACES];
-    if admits(rules, point) {
-        for i in 0..PLACES {
-            boxes[i] = rules[i].find_box(point[i]);
-        }
+    if !admits(rules, point) {
+        return [0; PLACES];
     }
-    boxes
+    array::from_fn(|i| rules[i].find_box(point[i]))
 }
 
 // Whether one point covers another.
 pub(crate) fn covers(rules: &Rules, point: &Point, other: &Point) -> bool {
-    for i in 0..PLACES {
-        if !rules[i].covers(point[i], other[i]) {
-            return false;
-        }
-    }
-    true
+    let figures = point.iter().zip(other);
+    rules
+        .iter()
+        .zip(figures)
+        .all(|(rule, (one, another))| rule.covers(*one, *another))
 }
 
 // Whether one vector is at least as great as another in every place.
 pub(crate) fn no_worse(one: &Point, other: &Point) -> bool {
-    for i in 0..PLACES {
-        if one[i] < other[i] {
-            return false;
-        }
-    }
-    true
+    one.iter().zip(other).all(|(a, b)| a >= b)
 }
 
 // Whether one vector dominates another: it is at least as great in every place, and greater in one.
 pub(crate) fn dominates(one: &Point, other: &Point) -> bool {
-    let mut greater = false;
-    for i in 0..PLACES {
-        if one[i] < other[i] {
-            return false;
-        }
-        if one[i] > other[i] {
-            greater = true;
-        }
-    }
-    greater
+    no_worse(one, other) && one != other
 }
 
 // The product of all extents but a largest.
