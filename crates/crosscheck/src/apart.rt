@@ -1,6 +1,6 @@
 // Where the two archives are apart.
 use crate::second::Told;
-use std::alloc::AllocError;
+use std::alloc::{AllocError, AllocFailed};
 
 // What differs, at which call or which round of arbitrary rows if at one, and what each archive told there.
 #[derive(Clone, Copy, Debug)]
@@ -20,6 +20,12 @@ pub(crate) enum Stop {
 
 impl From<AllocError> for Stop {
     fn from(_failed: AllocError) -> Stop {
+        Stop::Memory
+    }
+}
+
+impl<T: Drop> From<AllocFailed<T>> for Stop {
+    fn from(_failed: AllocFailed<T>) -> Stop {
         Stop::Memory
     }
 }

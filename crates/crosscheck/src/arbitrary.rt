@@ -1,17 +1,18 @@
 // Rows that came from no history: filled with anything, audited and offered to on both archives.
 use crate::apart::{Stop, in_round};
 use crate::bridge::Figured;
+use crate::case::Case;
 use crate::chance::Chance;
 use crate::compare::{hold_call, sizes_of};
 use crate::damaging::some_point;
 use crate::figures::{Point, Rule, Rules};
-use crate::histories::{Call, History};
+use crate::histories::Call;
 use crate::making::tag_by;
 use crate::replays::Both;
 use crate::second::member_of;
 use crate::tally::{Tally, one_more};
 use space::{Recorded, Trial};
-use std::alloc::{AllocError, Global};
+use std::alloc::AllocError;
 
 // The point with one figure off the grid, where there is room for one.
 fn stray(chance: &mut Chance, rules: &Rules, point: Point) -> Point {
@@ -43,17 +44,17 @@ fn filling<P: Figured>(chance: &mut Chance, rules: &Rules, points: &[Point]) -> 
 
 // Fills rows that hold members with anything, and gives the second archive the same.
 fn fill<S: Recorded>(
-    heap: Global,
+    case: &Case<'_, S>,
     chance: &mut Chance,
-    rules: &Rules,
-    points: &[Point],
     both: &mut Both<S>,
 ) -> Result<(), AllocError>
 where
     S::Point: Figured,
 {
     let count = both.archive.count();
-    let mut members = Vec::new(heap);
+    let rules = &case.rules;
+    let points = case.history.points.as_slice();
+    let mut members = Vec::new(case.heap);
     for row in both.lent.own.iter_mut().take(count) {
         *row = filling(chance, rules, points);
         members.push(member_of(rules, row.tag, row.point.figures()))?;
@@ -64,65 +65,48 @@ where
 
 // An audit of the rows, and then some offers to them.
 fn hold_round<S: Recorded>(
-    heap: Global,
+    case: &Case<'_, S>,
     chance: &mut Chance,
-    rules: &Rules,
-    history: &History,
     both: &mut Both<S>,
     tally: &mut Tally,
 ) -> Result<(), Stop>
 where
     S::Point: Figured,
 {
-    let sizes = sizes_of(history);
-    let rows = history.rows;
-    for i in 0..4 {
-        let call = if i == 0 {
-            one_more(&mut tally.audits);
-            Call::Audit { rows }
-        } else {
-            one_more(&mut tally.offers);
-            Call::Offer {
-                rows,
-                room: rows,
-                tag: tag_by(chance),
-                point: some_point(chance, rules, history.points.as_slice()),
-            }
+    let sizes = sizes_of(case.history);
+    let rows = case.history.rows;
+    one_more(&mut tally.audits);
+    hold_call(case.heap, both, &sizes, &Call::Audit { rows }, tally)?;
+    for _ in 0..3 {
+        one_more(&mut tally.offers);
+        let offer = Call::Offer {
+            rows,
+            room: rows,
+            tag: tag_by(chance),
+            point: some_point(chance, &case.rules, case.history.points.as_slice()),
         };
-        hold_call(
-            heap,
-            &mut both.archive,
-            &mut both.lent,
-            &mut both.second,
-            &sizes,
-            &call,
-            tally,
-        )?;
+        hold_call(case.heap, both, &sizes, &offer, tally)?;
     }
     Ok(())
 }
 
 // Some rounds of such rows, after a history that left members.
 pub(crate) fn hold_arbitrary<S: Recorded>(
-    heap: Global,
+    case: &Case<'_, S>,
     chance: &mut Chance,
-    rules: &Rules,
-    history: &History,
     both: &mut Both<S>,
     tally: &mut Tally,
 ) -> Result<(), Stop>
 where
     S::Point: Figured,
 {
+    let history = case.history;
     if history.points.is_empty() || both.archive.count() < 2 || history.rows > 100 {
         return Ok(());
     }
     for round in 0..6 {
-        fill(heap, chance, rules, history.points.as_slice(), both)?;
-        match hold_round(heap, chance, rules, history, both, tally) {
-            Ok(()) => {}
-            Err(stop) => return Err(in_round(stop, round)),
-        }
+        fill(case, chance, both)?;
+        hold_round(case, chance, both, tally).map_err(|stop| in_round(stop, round))?;
     }
     Ok(())
 }

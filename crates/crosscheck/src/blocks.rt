@@ -1,5 +1,5 @@
 // The blocks of the second archive: how it reads and writes them, byte by byte.
-use crate::figures::{Point, Rule, Rules, objectives};
+use crate::figures::{PLACES, Point, Rule, Rules, objectives};
 use crate::second::Member;
 use std::alloc::{AllocError, Global};
 
@@ -76,18 +76,18 @@ fn check_head(rules: &Rules, bytes: &[u8]) -> Option<Fault> {
 
 // The point that the bytes from this place on say: four bytes for each objective.
 fn point_at(rules: &Rules, bytes: &[u8], place: usize) -> Point {
-    let mut point = [0; 12];
+    let mut point = [0; PLACES];
     let mut at = place;
-    for i in 0..12 {
+    for (figure, rule) in point.iter_mut().zip(rules) {
         let word = word_at(bytes, at);
-        match rules[i] {
+        match rule {
             Rule::Unused => {}
             Rule::Step { .. } => {
-                point[i] = i64::from(i32::from_be_bytes(word.to_be_bytes()));
+                *figure = i64::from(word.cast_signed());
                 at = at.saturating_add(4);
             }
             Rule::Ratio { .. } => {
-                point[i] = i64::from(word);
+                *figure = i64::from(word);
                 at = at.saturating_add(4);
             }
         }
@@ -127,24 +127,20 @@ pub(crate) fn read_block(
         }
         place = after;
     }
-    for at in place..508 {
-        if byte_at(bytes, at) != 0 {
-            return Ok(Err(Fault {
-                number: 13,
-                layer: 2,
-                place: at,
-            }));
-        }
-    }
-    Ok(Ok(trials))
+    let tail = bytes.iter().enumerate().take(508).skip(place);
+    Ok(match tail.filter(|(_, byte)| **byte != 0).next() {
+        Some((place, _)) => Err(Fault {
+            number: 13,
+            layer: 2,
+            place,
+        }),
+        None => Ok(trials),
+    })
 }
 
 // Writes some bytes after the others.
 pub(crate) fn put(block: &mut Vec<u8>, bytes: &[u8]) -> Result<(), AllocError> {
-    for byte in bytes {
-        block.push(*byte)?;
-    }
-    Ok(())
+    block.extend_from_slice(bytes)
 }
 
 // The four bytes of a figure, negative ones in two's complement.
@@ -159,9 +155,9 @@ pub(crate) fn figures_bytes(
     point: &Point,
     block: &mut Vec<u8>,
 ) -> Result<(), AllocError> {
-    for i in 0..12 {
-        if rules[i].is_used() {
-            put(block, &figure_bytes(point[i]))?;
+    for (rule, figure) in rules.iter().zip(point) {
+        if rule.is_used() {
+            put(block, &figure_bytes(*figure))?;
         }
     }
     Ok(())
@@ -190,9 +186,7 @@ pub(crate) fn write_block(
         put(&mut block, &member.tag.to_be_bytes())?;
         figures_bytes(rules, &member.point, &mut block)?;
     }
-    for _ in block.len()..508 {
-        block.push(0)?;
-    }
+    block.resize(508, 0)?;
     let sums = check_bytes(block.as_slice());
     put(&mut block, &sums)?;
     Ok(block)

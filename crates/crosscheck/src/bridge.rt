@@ -12,24 +12,43 @@ pub(crate) trait Figured: Copy {
     fn figures(&self) -> Point;
 }
 
-// Six signed figures, of the first six places or of the last.
-fn signed(figures: &Point, from: usize) -> [i32; 6] {
-    let mut point = [0; 6];
-    for i in 0..6 {
-        let figure = figures.get(from.saturating_add(i)).copied().unwrap_or(0);
-        point[i] = i32::try_from(figure).unwrap_or(0);
-    }
-    point
+// Six figures of one kind.
+pub(crate) trait Six: Copy {
+    fn narrowed(figures: [i64; 6]) -> Self;
+
+    fn widened(&self) -> [i64; 6];
 }
 
-// Six unsigned figures, likewise.
-fn unsigned(figures: &Point, from: usize) -> [u32; 6] {
-    let mut point = [0; 6];
-    for i in 0..6 {
-        let figure = figures.get(from.saturating_add(i)).copied().unwrap_or(0);
-        point[i] = u32::try_from(figure).unwrap_or(0);
+impl Six for [i32; 6] {
+    fn narrowed(figures: [i64; 6]) -> [i32; 6] {
+        figures.map(|figure| i32::try_from(figure).unwrap_or(0))
     }
-    point
+
+    fn widened(&self) -> [i64; 6] {
+        self.map(i64::from)
+    }
+}
+
+impl Six for [u32; 6] {
+    fn narrowed(figures: [i64; 6]) -> [u32; 6] {
+        figures.map(|figure| u32::try_from(figure).unwrap_or(0))
+    }
+
+    fn widened(&self) -> [i64; 6] {
+        self.map(i64::from)
+    }
+}
+
+// The figures of the first six places.
+fn front(figures: &Point) -> [i64; 6] {
+    let [a, b, c, d, e, f, ..] = *figures;
+    [a, b, c, d, e, f]
+}
+
+// Those of the last six.
+fn back(figures: &Point) -> [i64; 6] {
+    let [.., a, b, c, d, e, f] = *figures;
+    [a, b, c, d, e, f]
 }
 
 // The figures of two points together.
@@ -39,81 +58,23 @@ fn together(front: [i64; 6], back: [i64; 6]) -> Point {
     [a, b, c, d, e, f, g, h, i, j, k, l]
 }
 
-// Signed figures as whole numbers.
-fn of_signed(point: &[i32; 6]) -> [i64; 6] {
-    let mut figures = [0; 6];
-    for i in 0..6 {
-        figures[i] = i64::from(point[i]);
-    }
-    figures
-}
-
-// Unsigned figures likewise.
-fn of_unsigned(point: &[u32; 6]) -> [i64; 6] {
-    let mut figures = [0; 6];
-    for i in 0..6 {
-        figures[i] = i64::from(point[i]);
-    }
-    figures
-}
-
-impl Figured for [i32; 6] {
-    fn of_figures(figures: &Point) -> [i32; 6] {
-        signed(figures, 0)
+impl<A: Six> Figured for A {
+    fn of_figures(figures: &Point) -> A {
+        A::narrowed(front(figures))
     }
 
     fn figures(&self) -> Point {
-        together(of_signed(self), [0; 6])
+        together(self.widened(), [0; 6])
     }
 }
 
-impl Figured for [u32; 6] {
-    fn of_figures(figures: &Point) -> [u32; 6] {
-        unsigned(figures, 0)
+impl<A: Six, B: Six> Figured for (A, B) {
+    fn of_figures(figures: &Point) -> (A, B) {
+        (A::narrowed(front(figures)), B::narrowed(back(figures)))
     }
 
     fn figures(&self) -> Point {
-        together(of_unsigned(self), [0; 6])
-    }
-}
-
-impl Figured for ([i32; 6], [i32; 6]) {
-    fn of_figures(figures: &Point) -> ([i32; 6], [i32; 6]) {
-        (signed(figures, 0), signed(figures, 6))
-    }
-
-    fn figures(&self) -> Point {
-        together(of_signed(&self.0), of_signed(&self.1))
-    }
-}
-
-impl Figured for ([i32; 6], [u32; 6]) {
-    fn of_figures(figures: &Point) -> ([i32; 6], [u32; 6]) {
-        (signed(figures, 0), unsigned(figures, 6))
-    }
-
-    fn figures(&self) -> Point {
-        together(of_signed(&self.0), of_unsigned(&self.1))
-    }
-}
-
-impl Figured for ([u32; 6], [i32; 6]) {
-    fn of_figures(figures: &Point) -> ([u32; 6], [i32; 6]) {
-        (unsigned(figures, 0), signed(figures, 6))
-    }
-
-    fn figures(&self) -> Point {
-        together(of_unsigned(&self.0), of_signed(&self.1))
-    }
-}
-
-impl Figured for ([u32; 6], [u32; 6]) {
-    fn of_figures(figures: &Point) -> ([u32; 6], [u32; 6]) {
-        (unsigned(figures, 0), unsigned(figures, 6))
-    }
-
-    fn figures(&self) -> Point {
-        together(of_unsigned(&self.0), of_unsigned(&self.1))
+        together(self.0.widened(), self.1.widened())
     }
 }
 
@@ -126,14 +87,16 @@ pub(crate) fn fault_of(report: Report) -> Fault {
     }
 }
 
-// What an offer told, in plain numbers.
-pub(crate) fn told_offer(said: Result<Offered, Denial>) -> Told {
-    match said {
-        Ok(offered) => Told::Judged {
-            verdict: offered.verdict.number(),
-            displaced: offered.displaced,
-        },
-        Err(denial) => Told::Denied(denial.number()),
+// What a call told: what it was granted, or the number of its denial.
+pub(crate) fn told<T>(said: Result<T, Denial>, granted: impl FnOnce(T) -> Told) -> Told {
+    said.map_or_else(|denial| Told::Denied(denial.number()), granted)
+}
+
+// How an offered trial fared, in plain numbers.
+pub(crate) fn told_offered(offered: Offered) -> Told {
+    Told::Judged {
+        verdict: offered.verdict.number(),
+        displaced: offered.displaced,
     }
 }
 
@@ -144,51 +107,29 @@ pub(crate) fn told_fed(fed: Fed) -> Told {
         passed: fed.passed,
         denied: fed.denied,
         displaced: fed.displaced,
-        first: fault_of(fed.first_report()),
+        first: fed.first.map(|denied| fault_of(denied.report())),
     }
+}
+
+// What a feed was refused for.
+fn told_refused(fault: FeedFault) -> Told {
+    Told::Refused(fault_of(fault.report()))
 }
 
 // What a feed told.
 pub(crate) fn told_feed(said: Result<Fed, FeedFault>) -> Told {
-    match said {
-        Ok(fed) => told_fed(fed),
-        Err(fault) => Told::Refused(fault_of(fault.report())),
-    }
-}
-
-// What an audit told.
-pub(crate) fn told_audit(said: Result<Option<(usize, usize)>, Denial>) -> Told {
-    match said {
-        Ok(pair) => Told::Audited(pair),
-        Err(denial) => Told::Denied(denial.number()),
-    }
-}
-
-// What a list told.
-pub(crate) fn told_list(said: Result<usize, Denial>) -> Told {
-    match said {
-        Ok(count) => Told::Listed(count),
-        Err(denial) => Told::Denied(denial.number()),
-    }
-}
-
-// What a save told.
-pub(crate) fn told_save(said: Result<usize, Denial>) -> Told {
-    match said {
-        Ok(count) => Told::Saved(count),
-        Err(denial) => Told::Denied(denial.number()),
-    }
+    said.map_or_else(told_refused, told_fed)
 }
 
 // What any call told, as a replay writes it beside the call.
 pub(crate) fn told_answer(answer: Answer) -> Told {
     match answer {
-        Answer::Offered(offered) => told_offer(Ok(offered)),
+        Answer::Offered(offered) => told_offered(offered),
         Answer::Fed(fed) => told_fed(fed),
         Answer::Audited(pair) => Told::Audited(pair),
         Answer::Listed(count) => Told::Listed(count),
         Answer::Saved(count) => Told::Saved(count),
         Answer::Denied(denial) => Told::Denied(denial.number()),
-        Answer::Refused(fault) => told_feed(Err(fault)),
+        Answer::Refused(fault) => told_refused(fault),
     }
 }

@@ -3,9 +3,9 @@ use crate::apart::{Stop, same, same_told};
 use crate::bridge::Figured;
 use crate::histories::{Call, History};
 use crate::house::{Lent, ask, rows_lent};
+use crate::replays::Both;
 use crate::second::{Member, Reply, Second, Told};
 use crate::tally::Tally;
-use archive::Archive;
 use space::{Recorded, Trial};
 use std::alloc::{AllocError, Global};
 
@@ -61,11 +61,7 @@ pub(crate) fn same_rows<P: Figured>(rows: &[Trial<P>], others: &[Trial<P>]) -> b
 
 // A copy of rows.
 fn copy_of<T: Copy>(heap: Global, rows: &[T]) -> Result<Vec<T>, AllocError> {
-    let mut copy = Vec::new(heap);
-    for row in rows {
-        copy.push(*row)?;
-    }
-    Ok(copy)
+    rows.iter().copied().collect(heap)
 }
 
 // A copy of all that is lent.
@@ -171,9 +167,7 @@ fn hold_writes<P: Figured>(
 // One call on both.
 pub(crate) fn hold_call<S: Recorded>(
     heap: Global,
-    archive: &mut Archive<S>,
-    lent: &mut Lent<S::Point>,
-    second: &mut Second,
+    both: &mut Both<S>,
     sizes: &Sizes,
     call: &Call,
     tally: &mut Tally,
@@ -181,21 +175,14 @@ pub(crate) fn hold_call<S: Recorded>(
 where
     S::Point: Figured,
 {
-    let before = lent_before(heap, lent)?;
-    let told = ask(archive, lent, call);
-    let reply = answer(second, sizes, call)?;
+    let before = lent_before(heap, &both.lent)?;
+    let told = ask(&mut both.archive, &mut both.lent, call);
+    let reply = answer(&mut both.second, sizes, call)?;
+    let count = both.archive.count();
+    let members = both.second.members.as_slice();
     tally.told(&reply.told);
     same_told(told, reply.told, "the answers")?;
-    same(
-        archive.count() == second.members.len(),
-        "the number of members",
-    )?;
-    hold_writes(
-        &before,
-        lent,
-        archive.count(),
-        &reply,
-        second.members.as_slice(),
-    )?;
+    same(count == members.len(), "the number of members")?;
+    hold_writes(&before, &both.lent, count, &reply, members)?;
     Ok(told)
 }

@@ -150,9 +150,7 @@ fn tear(chance: &mut Chance, block: &mut Vec<u8>) -> Result<(), AllocError> {
         }
         1 => block.push(0)?,
         2 => {
-            for there in block.iter_mut() {
-                *there = 0;
-            }
+            block.fill(0);
         }
         3 => {
             let place = chance.size(4).saturating_add(508);
@@ -183,9 +181,7 @@ pub(crate) fn block_by(
     let mut block = bytes;
     let end = block.len();
     set(&mut block, 1, records);
-    for _ in end..512 {
-        block.push(0)?;
-    }
+    block.resize(512, 0)?;
     if chance.once_in(3) {
         damage(chance, &mut block, last, end);
         if chance.once_in(3) {

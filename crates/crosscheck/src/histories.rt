@@ -1,15 +1,19 @@
 // Histories: a space, so many rows, and calls with what each is to be lent.
 use crate::figures::{Point, Rule, Rules};
+use std::array;
 
-// Which of the first archive's spaces a history is over.
+// How a space of the first archive divides its objectives.
 #[derive(Clone, Copy, PartialEq, Eq, Debug)]
-pub(crate) enum Kind {
+pub(crate) enum Shape {
     Step,
     Ratio,
-    StepStep,
-    StepRatio,
-    RatioStep,
-    RatioRatio,
+}
+
+// Which of the first archive's spaces a history is over: one alone, or two side by side.
+#[derive(Clone, Copy, PartialEq, Eq, Debug)]
+pub(crate) enum Kind {
+    Alone(Shape),
+    Pair(Shape, Shape),
 }
 
 // A call with what it is to be lent: how many rows, how much of the list, how much of the block.
@@ -61,21 +65,16 @@ pub(crate) struct History {
     pub restore_first: Option<Vec<u8>>,
 }
 
-impl Kind {
-    // Whether two spaces stand side by side.
-    pub(crate) fn is_pair(self) -> bool {
-        !matches!(self, Kind::Step | Kind::Ratio)
-    }
-}
-
 impl Scales {
     // The rules, place by place: six of each space.
     pub(crate) fn rules(&self) -> Rules {
-        let mut rules = [Rule::Unused; 12];
-        for i in 0..6 {
-            rules[i] = self.first.get(i).copied().unwrap_or(Rule::Unused);
-            rules[i + 6] = self.second.get(i).copied().unwrap_or(Rule::Unused);
-        }
-        rules
+        array::from_fn(|i| {
+            let rule = if i < 6 {
+                self.first.get(i)
+            } else {
+                self.second.get(i - 6)
+            };
+            rule.copied().unwrap_or(Rule::Unused)
+        })
     }
 }

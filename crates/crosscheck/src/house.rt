@@ -1,5 +1,5 @@
 // The first archive, asked by its own calls, with what it is lent.
-use crate::bridge::{Figured, told_audit, told_feed, told_list, told_offer, told_save};
+use crate::bridge::{Figured, told, told_feed, told_offered};
 use crate::figures::Point;
 use crate::histories::Call;
 use crate::second::Told;
@@ -23,14 +23,11 @@ pub(crate) fn rows_of<P: Figured>(
     tag: u32,
     point: &Point,
 ) -> Result<Vec<Trial<P>>, AllocError> {
-    let mut rows = Vec::new(heap);
-    for _ in 0..count {
-        rows.push(Trial {
-            point: P::of_figures(point),
-            tag,
-        })?;
-    }
-    Ok(rows)
+    let row = Trial {
+        point: P::of_figures(point),
+        tag,
+    };
+    Ok(vec![in heap; row; count]?)
 }
 
 // As much to lend as every call of a history over so many rows may ask for.
@@ -84,24 +81,28 @@ where
             };
             let room = (*room).min(lent.list.len());
             let rows = rows_for(&mut lent.own, &mut lent.strange, *rows);
-            told_offer(archive.offer(trial, rows, &mut lent.list.as_mut_slice()[..room]))
+            let said = archive.offer(trial, rows, &mut lent.list.as_mut_slice()[..room]);
+            told(said, told_offered)
         }
         Call::Feed { rows, block } => {
             let rows = rows_for(&mut lent.own, &mut lent.strange, *rows);
             told_feed(archive.feed(block.as_slice(), rows))
         }
         Call::Audit { rows } => {
-            told_audit(archive.audit(rows_for(&mut lent.own, &mut lent.strange, *rows)))
+            let rows = rows_for(&mut lent.own, &mut lent.strange, *rows);
+            told(archive.audit(rows), Told::Audited)
         }
         Call::List { rows, room } => {
             let room = (*room).min(lent.list.len());
             let rows = rows_for(&mut lent.own, &mut lent.strange, *rows);
-            told_list(archive.list(rows, &mut lent.list.as_mut_slice()[..room]))
+            let said = archive.list(rows, &mut lent.list.as_mut_slice()[..room]);
+            told(said, Told::Listed)
         }
         Call::Save { rows, number, size } => {
             let size = (*size).min(lent.block.len());
             let rows = rows_for(&mut lent.own, &mut lent.strange, *rows);
-            told_save(archive.save(rows, *number, &mut lent.block.as_mut_slice()[..size]))
+            let said = archive.save(rows, *number, &mut lent.block.as_mut_slice()[..size]);
+            told(said, Told::Saved)
         }
     }
 }

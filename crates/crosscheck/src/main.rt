@@ -9,6 +9,7 @@ mod arbitrary;
 mod blocks;
 mod bridge;
 mod calling;
+mod case;
 mod chance;
 mod compare;
 mod damaging;

@@ -1,7 +1,7 @@
 // Spaces and points made up by chance: points on every edge of a box, at the ends of the grid and off it.
 use crate::chance::Chance;
-use crate::figures::{Point, Rule, Rules, edge_after};
-use crate::histories::{Kind, Scales};
+use crate::figures::{PLACES, Point, Rule, Rules, edge_after};
+use crate::histories::{Kind, Scales, Shape};
 use std::alloc::{AllocError, Global};
 
 // A whole number as one of 32 bits.
@@ -39,11 +39,7 @@ fn step_rule(chance: &mut Chance, boxes: i64) -> Rule {
 
 // The edge of this box.
 fn edge_of(per_cent: u32, number: i64) -> i64 {
-    let mut edge = 1;
-    for _ in 0..number.min(1100) {
-        edge = edge_after(per_cent, edge);
-    }
-    edge
+    (0..number.min(1100)).fold(1, |edge, _| edge_after(per_cent, edge))
 }
 
 // A ratio rule with so many boxes.
@@ -86,19 +82,17 @@ fn boxes_for(chance: &mut Chance, objectives: usize) -> i64 {
 fn rules_of(
     heap: Global,
     chance: &mut Chance,
-    ratio: bool,
+    shape: Shape,
     count: usize,
     objectives: usize,
 ) -> Result<Vec<Rule>, AllocError> {
     let mut rules = Vec::new(heap);
     for _ in 0..count {
         let boxes = boxes_for(chance, objectives);
-        let rule = if ratio {
-            ratio_rule(chance, boxes)
-        } else {
-            step_rule(chance, boxes)
-        };
-        rules.push(rule)?;
+        rules.push(match shape {
+            Shape::Step => step_rule(chance, boxes),
+            Shape::Ratio => ratio_rule(chance, boxes),
+        })?;
     }
     Ok(rules)
 }
@@ -106,33 +100,38 @@ fn rules_of(
 // Which space: alone or side by side.
 fn kind_by(chance: &mut Chance) -> Kind {
     match chance.below(8) {
-        0 | 1 => Kind::Step,
-        2 | 3 => Kind::Ratio,
-        4 => Kind::StepStep,
-        5 => Kind::StepRatio,
-        6 => Kind::RatioStep,
-        _ => Kind::RatioRatio,
+        0 | 1 => Kind::Alone(Shape::Step),
+        2 | 3 => Kind::Alone(Shape::Ratio),
+        4 => Kind::Pair(Shape::Step, Shape::Step),
+        5 => Kind::Pair(Shape::Step, Shape::Ratio),
+        6 => Kind::Pair(Shape::Ratio, Shape::Step),
+        _ => Kind::Pair(Shape::Ratio, Shape::Ratio),
     }
 }
 
 // Scales of a space that can be made, with one to six objectives.
 pub(crate) fn scales_by(heap: Global, chance: &mut Chance) -> Result<Scales, AllocError> {
     let kind = kind_by(chance);
-    let (front, back) = if kind.is_pair() {
-        let front = chance.size(5).saturating_add(1);
-        let back = chance.size(6usize.saturating_sub(front)).saturating_add(1);
-        (front, back)
-    } else {
-        (chance.size(6).saturating_add(1), 0)
-    };
-    let all = front.saturating_add(back);
-    let first = matches!(kind, Kind::Ratio | Kind::RatioStep | Kind::RatioRatio);
-    let second = matches!(kind, Kind::StepRatio | Kind::RatioRatio);
-    Ok(Scales {
-        kind,
-        first: rules_of(heap, chance, first, front, all)?,
-        second: rules_of(heap, chance, second, back, all)?,
-    })
+    match kind {
+        Kind::Alone(shape) => {
+            let all = chance.size(6).saturating_add(1);
+            Ok(Scales {
+                kind,
+                first: rules_of(heap, chance, shape, all, all)?,
+                second: Vec::new(heap),
+            })
+        }
+        Kind::Pair(first, second) => {
+            let front = chance.size(5).saturating_add(1);
+            let back = chance.size(6usize.saturating_sub(front)).saturating_add(1);
+            let all = front.saturating_add(back);
+            Ok(Scales {
+                kind,
+                first: rules_of(heap, chance, first, front, all)?,
+                second: rules_of(heap, chance, second, back, all)?,
+            })
+        }
+    }
 }
 
 // A rule with something wrong, or so many boxes that it may be.
@@ -210,26 +209,27 @@ fn bent_rule(chance: &mut Chance, rule: Rule) -> Rule {
 }
 
 // Rules of which some may be wrong, and as many as may be too many or none.
-fn bent_rules(heap: Global, chance: &mut Chance, ratio: bool) -> Result<Vec<Rule>, AllocError> {
+fn bent_rules(heap: Global, chance: &mut Chance, shape: Shape) -> Result<Vec<Rule>, AllocError> {
     let count = chance.size(8);
-    let straight = rules_of(heap, chance, ratio, count, count)?;
-    let mut rules = Vec::new(heap);
-    for rule in straight.iter() {
-        rules.push(if chance.once_in(4) {
-            bent_rule(chance, *rule)
-        } else {
-            *rule
-        })?;
+    let mut rules = rules_of(heap, chance, shape, count, count)?;
+    for rule in rules.iter_mut() {
+        if chance.once_in(4) {
+            *rule = bent_rule(chance, *rule);
+        }
     }
     Ok(rules)
 }
 
 // Scales of a space that perhaps cannot be made.
 pub(crate) fn bent_scales_by(heap: Global, chance: &mut Chance) -> Result<Scales, AllocError> {
-    let ratio = chance.once_in(2);
+    let shape = if chance.once_in(2) {
+        Shape::Ratio
+    } else {
+        Shape::Step
+    };
     Ok(Scales {
-        kind: if ratio { Kind::Ratio } else { Kind::Step },
-        first: bent_rules(heap, chance, ratio)?,
+        kind: Kind::Alone(shape),
+        first: bent_rules(heap, chance, shape)?,
         second: Vec::new(heap),
     })
 }
@@ -238,16 +238,14 @@ pub(crate) fn bent_scales_by(heap: Global, chance: &mut Chance) -> Result<Scales
 pub(crate) fn wide_scales_by(heap: Global, chance: &mut Chance) -> Result<Scales, AllocError> {
     let front = chance.size(6).saturating_add(1);
     let back = chance.size(6).saturating_add(1);
-    let kind = match chance.below(4) {
-        0 => Kind::StepStep,
-        1 => Kind::StepRatio,
-        2 => Kind::RatioStep,
-        _ => Kind::RatioRatio,
+    let (first, second) = match chance.below(4) {
+        0 => (Shape::Step, Shape::Step),
+        1 => (Shape::Step, Shape::Ratio),
+        2 => (Shape::Ratio, Shape::Step),
+        _ => (Shape::Ratio, Shape::Ratio),
     };
-    let first = matches!(kind, Kind::RatioStep | Kind::RatioRatio);
-    let second = matches!(kind, Kind::StepRatio | Kind::RatioRatio);
     Ok(Scales {
-        kind,
+        kind: Kind::Pair(first, second),
         first: rules_of(heap, chance, first, front, 4)?,
         second: rules_of(heap, chance, second, back, 4)?,
     })
@@ -315,13 +313,13 @@ fn part(rule: &Rule, sixtieths: i64) -> i64 {
 fn numbers_by(chance: &mut Chance, rules: &Rules) -> Point {
     let trades = chance.front && !chance.once_in(50);
     let mut sixtieths = chance.between(0, 60);
-    let mut numbers = [0; 12];
-    for i in 0..12 {
+    let mut numbers = [0; PLACES];
+    for (number, rule) in numbers.iter_mut().zip(rules) {
         if !trades {
             sixtieths = chance.between(0, 60);
         }
-        if rules[i].is_used() {
-            numbers[i] = part(&rules[i], sixtieths);
+        if rule.is_used() {
+            *number = part(rule, sixtieths);
             sixtieths = 60i64.saturating_sub(sixtieths);
         }
     }
@@ -332,11 +330,11 @@ fn numbers_by(chance: &mut Chance, rules: &Rules) -> Point {
 pub(crate) fn point_by(chance: &mut Chance, rules: &Rules) -> Point {
     let pair = rules.iter().skip(6).any(|rule| rule.is_used());
     let numbers = numbers_by(chance, rules);
-    let mut point = [0; 12];
-    for i in 0..12 {
-        if i < 6 || pair {
-            point[i] = figure_by(chance, &rules[i], numbers[i]);
-        }
+    let used = if pair { PLACES } else { 6 };
+    let mut point = [0; PLACES];
+    let places = rules.iter().zip(numbers.iter());
+    for (figure, (rule, number)) in point.iter_mut().zip(places).take(used) {
+        *figure = figure_by(chance, rule, *number);
     }
     point
 }

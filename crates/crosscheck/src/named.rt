@@ -1,7 +1,7 @@
 // Histories that are tried by name.
 use crate::calling::history_of;
 use crate::figures::Rule;
-use crate::histories::{Call, History, Kind, Scales};
+use crate::histories::{Call, History, Kind, Scales, Shape};
 use std::alloc::{AllocError, Global};
 
 // A history and its name.
@@ -23,7 +23,7 @@ fn square(heap: Global, high: i32, step: u32) -> Result<Scales, AllocError> {
     first.push(rule)?;
     first.push(rule)?;
     Ok(Scales {
-        kind: Kind::Step,
+        kind: Kind::Alone(Shape::Step),
         first,
         second: Vec::new(heap),
     })
@@ -32,9 +32,7 @@ fn square(heap: Global, high: i32, step: u32) -> Result<Scales, AllocError> {
 // An offer of each of these points over so many rows, with tags from 1 on, and then an audit, a list and a save.
 fn offers(heap: Global, rows: usize, points: &[(i64, i64)]) -> Result<Vec<Call>, AllocError> {
     let mut calls = Vec::new(heap);
-    let mut tag = 0u32;
-    for (x, y) in points {
-        tag = tag.saturating_add(1);
+    for (tag, (x, y)) in (1u32..).zip(points) {
         calls.push(Call::Offer {
             rows,
             room: rows,
@@ -122,16 +120,14 @@ pub(crate) fn log_history(heap: Global, bytes: &[u8]) -> Result<History, AllocEr
         ceiling: 1000,
     })?;
     let scales = Scales {
-        kind: Kind::StepRatio,
+        kind: Kind::Pair(Shape::Step, Shape::Ratio),
         first,
         second,
     };
     let mut calls = Vec::new(heap);
     for piece in bytes.chunks(512) {
         let mut block = Vec::new(heap);
-        for byte in piece {
-            block.push(*byte)?;
-        }
+        block.extend_from_slice(piece)?;
         calls.push(Call::Feed { rows: 32, block })?;
     }
     end(&mut calls, 32)?;

@@ -2,6 +2,7 @@
 use crate::apart::{Stop, same};
 use crate::blocks::figures_bytes;
 use crate::bridge::Figured;
+use crate::case::Case;
 use crate::figures::{Point, Rules, admits, boxes, covers, no_worse, objectives, row_need, worths};
 use crate::tally::{Tally, one_more};
 use archive::row_need as first_need;
@@ -98,21 +99,18 @@ where
 }
 
 // All questions, at these points.
-pub(crate) fn hold_questions<S: Recorded>(
-    heap: Global,
-    space: &S,
-    rules: &Rules,
-    points: &[Point],
-    tally: &mut Tally,
-) -> Result<(), Stop>
+pub(crate) fn hold_questions<S: Recorded>(case: &Case<'_, S>, tally: &mut Tally) -> Result<(), Stop>
 where
     S::Point: Figured,
 {
+    let space = &case.space;
+    let rules = &case.rules;
+    let points = case.history.points.as_slice();
     hold_extents(space, rules)?;
     for point in points {
         hold_point(space, rules, point)?;
         if admits(rules, point) {
-            hold_bytes(heap, space, rules, point)?;
+            hold_bytes(case.heap, space, rules, point)?;
         }
         for other in points {
             hold_two(space, rules, point, other)?;

@@ -1,8 +1,8 @@
 // A whole history on both archives: call by call, and by the two replays.
 use crate::apart::{Stop, at_call, same, same_told};
 use crate::bridge::{Figured, told_answer};
+use crate::case::Case;
 use crate::compare::{answer, front, hold_call, hold_members, same_rows, sizes_of};
-use crate::figures::Rules;
 use crate::histories::{Call, History};
 use crate::house::{Lent, lent_of};
 use crate::second::{Second, Told};
@@ -23,25 +23,19 @@ pub(crate) struct Both<S: Space> {
 
 // Both archives made, or none where both deny it alike.
 fn make_both<S: Recorded + Copy>(
-    heap: Global,
-    space: S,
-    rules: &Rules,
-    rows: usize,
+    case: &Case<'_, S>,
     tally: &mut Tally,
 ) -> Result<Option<Both<S>>, Stop>
 where
     S::Point: Figured,
 {
-    let lent = lent_of::<S::Point>(heap, rows)?;
-    match (
-        Archive::new(space, lent.own.as_slice()),
-        Second::new(heap, *rules, rows),
-    ) {
+    let lent = lent_of::<S::Point>(case.heap, case.history.rows)?;
+    match (Archive::new(case.space, lent.own.as_slice()), case.second()) {
         (Ok(archive), Ok(second)) => Ok(Some(Both {
             archive,
             lent,
             second,
-            told: Vec::new(heap),
+            told: Vec::new(case.heap),
         })),
         (Err(refused), Err(number)) => {
             same(refused.denial.number() == number, "the making's denial")?;
@@ -55,108 +49,85 @@ where
     }
 }
 
-// Keeps what a call told.
-fn keep(all: &mut Vec<Told>, told: Told) -> Result<(), AllocError> {
-    all.push(told)?;
-    Ok(())
-}
-
 // Runs a history on both archives call by call; none where no archive is made.
 pub(crate) fn hold_calls<S: Recorded + Copy>(
-    heap: Global,
-    space: S,
-    rules: &Rules,
-    history: &History,
+    case: &Case<'_, S>,
     tally: &mut Tally,
 ) -> Result<Option<Both<S>>, Stop>
 where
     S::Point: Figured,
 {
-    let Some(mut both) = make_both(heap, space, rules, history.rows, tally)? else {
+    let Some(mut both) = make_both(case, tally)? else {
         return Ok(None);
     };
-    let sizes = sizes_of(history);
-    for (i, call) in history.calls.iter().enumerate() {
-        let held = hold_call(
-            heap,
-            &mut both.archive,
-            &mut both.lent,
-            &mut both.second,
-            &sizes,
-            call,
-            tally,
-        );
-        match held {
-            Ok(told) => keep(&mut both.told, told)?,
-            Err(stop) => return Err(at_call(stop, i)),
-        }
+    let sizes = sizes_of(case.history);
+    for (i, call) in case.history.calls.iter().enumerate() {
+        let told = hold_call(case.heap, &mut both, &sizes, call, tally).map_err(|stop| at_call(
+            stop, i,
+        ))?;
+        both.told.push(told)?;
     }
     Ok(Some(both))
 }
 
-// A call of the three kinds that every space has.
-fn plain_ask<P: Figured>(call: &Call) -> Option<Ask<P>> {
-    match call {
-        Call::Offer {
-            rows,
-            room,
-            tag,
-            point,
-        } => Some(Ask::Offer {
-            rows: *rows,
-            room: *room,
-            trial: Trial {
-                point: P::of_figures(point),
-                tag: *tag,
-            },
-        }),
-        Call::Audit { rows } => Some(Ask::Audit { rows: *rows }),
-        Call::List { rows, room } => Some(Ask::List {
-            rows: *rows,
-            room: *room,
-        }),
-        _ => None,
-    }
+// What can be asked for of a replay, by the calls of a history; none where this replay has no such call.
+trait AskOf<'a>: Drop {
+    fn ask_of(call: &'a Call) -> Option<Self>;
 }
 
-// The calls of those kinds, not answered yet.
-fn plain_turns<P: Figured>(heap: Global, calls: &[Call]) -> Result<Vec<Turn<Ask<P>>>, AllocError> {
-    let mut turns = Vec::new(heap);
-    for call in calls {
-        if let Some(ask) = plain_ask(call) {
-            turns.push(Turn { ask, answer: None })?;
+// The three kinds that every space has.
+impl<'a, P: Figured> AskOf<'a> for Ask<P> {
+    fn ask_of(call: &'a Call) -> Option<Ask<P>> {
+        match call {
+            Call::Offer {
+                rows,
+                room,
+                tag,
+                point,
+            } => Some(Ask::Offer {
+                rows: *rows,
+                room: *room,
+                trial: Trial {
+                    point: P::of_figures(point),
+                    tag: *tag,
+                },
+            }),
+            Call::Audit { rows } => Some(Ask::Audit { rows: *rows }),
+            Call::List { rows, room } => Some(Ask::List {
+                rows: *rows,
+                room: *room,
+            }),
+            _ => None,
         }
     }
-    Ok(turns)
 }
 
-// A call of any kind.
-fn recorded_ask<P: Figured>(call: &Call) -> Option<RecordedAsk<'_, P>> {
-    match call {
-        Call::Feed { rows, block } => Some(RecordedAsk::Feed {
-            rows: *rows,
-            block: block.as_slice(),
-        }),
-        Call::Save { rows, number, size } => Some(RecordedAsk::Save {
-            rows: *rows,
-            number: *number,
-            size: *size,
-        }),
-        _ => match plain_ask(call) {
-            Some(ask) => Some(RecordedAsk::Plain(ask)),
-            None => None,
-        },
+// All kinds.
+impl<'a, P: Figured> AskOf<'a> for RecordedAsk<'a, P> {
+    fn ask_of(call: &'a Call) -> Option<RecordedAsk<'a, P>> {
+        match call {
+            Call::Feed { rows, block } => Some(RecordedAsk::Feed {
+                rows: *rows,
+                block: block.as_slice(),
+            }),
+            Call::Save { rows, number, size } => Some(RecordedAsk::Save {
+                rows: *rows,
+                number: *number,
+                size: *size,
+            }),
+            _ => {
+                let plain = Ask::ask_of(call)?;
+                Some(RecordedAsk::Plain(plain))
+            }
+        }
     }
 }
 
-// The calls of all kinds, not answered yet.
-fn recorded_turns<'a, P: Figured>(
-    heap: Global,
-    calls: &'a [Call],
-) -> Result<Vec<Turn<RecordedAsk<'a, P>>>, AllocError> {
+// The calls that can be asked for, not answered yet.
+fn turns_of<'a, A: AskOf<'a>>(heap: Global, calls: &'a [Call]) -> Result<Vec<Turn<A>>, AllocError> {
     let mut turns = Vec::new(heap);
     for call in calls {
-        if let Some(ask) = recorded_ask(call) {
+        if let Some(ask) = A::ask_of(call) {
             turns.push(Turn { ask, answer: None })?;
         }
     }
@@ -172,13 +143,8 @@ fn same_answer(answer: &Option<history::Answer>, told: Told) -> Result<(), Stop>
 }
 
 // A replay that makes no archive: the second archive is not made either.
-fn hold_refused<S>(
-    heap: Global,
-    refused: &Refused<S>,
-    rules: &Rules,
-    rows: usize,
-) -> Result<(), Stop> {
-    match Second::new(heap, *rules, rows) {
+fn hold_refused<S>(case: &Case<'_, S>, refused: &Refused<S>) -> Result<(), Stop> {
+    match case.second() {
         Ok(_) => same(false, "whether a replay makes an archive"),
         Err(number) => same(refused.denial.number() == number, "a replay's denial"),
     }
@@ -186,21 +152,19 @@ fn hold_refused<S>(
 
 // The replay of all five kinds, against what the calls told one by one and what they left.
 pub(crate) fn hold_recorded<S: Recorded + Copy>(
-    heap: Global,
-    space: S,
-    rules: &Rules,
-    history: &History,
+    case: &Case<'_, S>,
     both: &Option<Both<S>>,
     tally: &mut Tally,
 ) -> Result<(), Stop>
 where
     S::Point: Figured,
 {
-    let mut lent = lent_of::<S::Point>(heap, history.rows)?;
-    let fresh = lent_of::<S::Point>(heap, history.rows)?;
-    let mut turns = recorded_turns::<S::Point>(heap, history.calls.as_slice())?;
+    let mut lent = lent_of::<S::Point>(case.heap, case.history.rows)?;
+    let fresh = lent_of::<S::Point>(case.heap, case.history.rows)?;
+    let calls = case.history.calls.as_slice();
+    let mut turns = turns_of::<RecordedAsk<'_, S::Point>>(case.heap, calls)?;
     let replayed = replay_recorded(
-        space,
+        case.space,
         lent.own.as_mut_slice(),
         lent.strange.as_mut_slice(),
         lent.list.as_mut_slice(),
@@ -209,12 +173,10 @@ where
     );
     one_more(&mut tally.replays);
     match (replayed, both) {
-        (Err(refused), None) => hold_refused(heap, &refused, rules, history.rows),
+        (Err(refused), None) => hold_refused(case, &refused),
         (Ok(archive), Some(both)) => {
             for (i, (turn, told)) in turns.iter().zip(both.told.iter()).enumerate() {
-                if let Err(stop) = same_answer(&turn.answer, *told) {
-                    return Err(at_call(stop, i));
-                }
+                same_answer(&turn.answer, *told).map_err(|stop| at_call(stop, i))?;
             }
             same(
                 turns.len() == both.told.len(),
@@ -263,19 +225,17 @@ where
 
 // The replay of the three kinds that every space has.
 pub(crate) fn hold_plain<S: Recorded + Copy>(
-    heap: Global,
-    space: S,
-    rules: &Rules,
-    history: &History,
+    case: &Case<'_, S>,
     tally: &mut Tally,
 ) -> Result<(), Stop>
 where
     S::Point: Figured,
 {
-    let mut lent = lent_of::<S::Point>(heap, history.rows)?;
-    let mut turns = plain_turns::<S::Point>(heap, history.calls.as_slice())?;
+    let mut lent = lent_of::<S::Point>(case.heap, case.history.rows)?;
+    let calls = case.history.calls.as_slice();
+    let mut turns = turns_of::<Ask<S::Point>>(case.heap, calls)?;
     let replayed = replay(
-        space,
+        case.space,
         lent.own.as_mut_slice(),
         lent.strange.as_mut_slice(),
         lent.list.as_mut_slice(),
@@ -283,11 +243,11 @@ where
     );
     one_more(&mut tally.replays);
     match replayed {
-        Err(refused) => hold_refused(heap, &refused, rules, history.rows),
-        Ok(archive) => match Second::new(heap, *rules, history.rows) {
+        Err(refused) => hold_refused(case, &refused),
+        Ok(archive) => match case.second() {
             Err(_) => same(false, "whether a replay makes an archive"),
             Ok(mut second) => {
-                hold_turns(turns.as_slice(), &mut second, history)?;
+                hold_turns(turns.as_slice(), &mut second, case.history)?;
                 same(
                     hold_members(
                         front(lent.own.as_slice(), archive.count()),
@@ -312,9 +272,7 @@ fn hold_turns<P: Figured>(
     });
     for (turn, (i, call)) in turns.iter().zip(calls) {
         let told = answer(second, &sizes, call)?.told;
-        if let Err(stop) = same_answer(&turn.answer, told) {
-            return Err(at_call(stop, i));
-        }
+        same_answer(&turn.answer, told).map_err(|stop| at_call(stop, i))?;
     }
     Ok(())
 }

@@ -1,8 +1,8 @@
 // What an archive saves, and what is restored from it, on both.
 use crate::apart::{Stop, same, same_told};
 use crate::bridge::{Figured, fault_of, told_fed};
+use crate::case::Case;
 use crate::compare::{front, hold_members, same_rows};
-use crate::figures::Rules;
 use crate::histories::History;
 use crate::house::rows_of;
 use crate::replays::Both;
@@ -44,19 +44,13 @@ fn with_first(
     if let Some(first) = &history.restore_first {
         all.push(first.clone()?)?;
     }
-    for block in blocks {
-        all.push(block)?;
-    }
+    all.extend(blocks)?;
     Ok(all)
 }
 
 // The blocks as parts that are lent.
 fn parts_of<'a>(heap: Global, blocks: &'a [Vec<u8>]) -> Result<Vec<&'a [u8]>, AllocError> {
-    let mut parts = Vec::new(heap);
-    for block in blocks {
-        parts.push(block.as_slice())?;
-    }
-    Ok(parts)
+    blocks.iter().map(|block| block.as_slice()).collect(heap)
 }
 
 // Why the first archive is not restored, in plain numbers.
@@ -99,16 +93,15 @@ where
 
 // The blocks of the members restored by both archives, behind another block at times.
 pub(crate) fn hold_restore<S: Recorded + Copy>(
-    heap: Global,
-    space: S,
-    rules: &Rules,
-    history: &History,
+    case: &Case<'_, S>,
     both: &Both<S>,
     tally: &mut Tally,
 ) -> Result<(), Stop>
 where
     S::Point: Figured,
 {
+    let heap = case.heap;
+    let history = case.history;
     let saved = hold_saves(
         heap,
         &both.archive,
@@ -120,8 +113,8 @@ where
     let mut rows = rows_of::<S::Point>(heap, history.restore_rows, 5, &[3; 12])?;
     let before = rows_of::<S::Point>(heap, history.restore_rows, 5, &[3; 12])?;
     let parts = parts_of(heap, blocks.as_slice())?;
-    let first = restore(space, rows.as_mut_slice(), parts.as_slice());
-    let second = restore_second(heap, *rules, history.restore_rows, blocks.as_slice())?;
+    let first = restore(case.space, rows.as_mut_slice(), parts.as_slice());
+    let second = restore_second(heap, case.rules, history.restore_rows, blocks.as_slice())?;
     match (first, second) {
         (Ok(first), Ok(second)) => hold_restored(heap, &first, rows.as_slice(), &second, tally),
         (Err(first), Err(second)) => {

@@ -27,7 +27,7 @@ pub(crate) enum Told {
         passed: usize,
         denied: usize,
         displaced: usize,
-        first: Fault,
+        first: Option<Fault>,
     },
     Audited(Option<(usize, usize)>),
     Listed(usize),
@@ -61,15 +61,6 @@ pub(crate) fn member_of(rules: &Rules, tag: u32, point: Point) -> Member {
         admitted: admits(rules, &point),
         worths: worths(rules, &point),
         boxes: boxes(rules, &point),
-    }
-}
-
-// No fault.
-pub(crate) fn no_fault() -> Fault {
-    Fault {
-        number: 0,
-        layer: 0,
-        place: 0,
     }
 }
 
@@ -108,25 +99,18 @@ impl Second {
 
     // The rows whose members' boxes the trial's box dominates.
     fn rows_below(&self, trial: &Member) -> Result<Vec<usize>, AllocError> {
-        let mut rows = Vec::new(self.heap);
-        for (row, member) in self.members.iter().enumerate() {
-            if dominates(&trial.boxes, &member.boxes) {
-                rows.push(row)?;
-            }
-        }
-        Ok(rows)
+        self.members
+            .iter()
+            .enumerate()
+            .filter(|(_, member)| dominates(&trial.boxes, &member.boxes))
+            .map(|(row, _)| row)
+            .collect(self.heap)
     }
 
-    // The lowest row whose member has the trial's box and is dominated by the trial, alone; none if there is no such row.
-    fn row_beaten(&self, trial: &Member) -> Result<Vec<usize>, AllocError> {
-        let mut rows = Vec::new(self.heap);
-        for (row, member) in self.members.iter().enumerate() {
-            if member.boxes == trial.boxes && dominates(&trial.worths, &member.worths) {
-                rows.push(row)?;
-                break;
-            }
-        }
-        Ok(rows)
+    // The lowest row whose member has the trial's box and is dominated by the trial.
+    fn row_beaten(&self, trial: &Member) -> Option<usize> {
+        self.members.iter().position(|member| member.boxes == trial.boxes
+            && dominates(&trial.worths, &member.worths))
     }
 
     // Whether some member's box equals the trial's or dominates it.
@@ -157,9 +141,8 @@ impl Second {
         if !below.is_empty() {
             return self.enter(2, below.as_slice(), trial);
         }
-        let beaten = self.row_beaten(&trial)?;
-        if !beaten.is_empty() {
-            return self.enter(3, beaten.as_slice(), trial);
+        if let Some(row) = self.row_beaten(&trial) {
+            return self.enter(3, &[row], trial);
         }
         if self.is_shut_out(&trial) {
             return Ok(self.says(Told::Judged {
@@ -238,10 +221,11 @@ impl Second {
         if room < self.members.len() {
             return Ok(self.says(Told::Denied(4)));
         }
-        let mut tags = Vec::new(self.heap);
-        for member in self.members.iter() {
-            tags.push(member.tag)?;
-        }
+        let tags: Vec<u32> = self
+            .members
+            .iter()
+            .map(|member| member.tag)
+            .collect(self.heap)?;
         Ok(Reply {
             told: Told::Listed(tags.len()),
             tags,
@@ -277,17 +261,17 @@ impl Second {
             return Ok(self.says(Told::Denied(9)));
         }
         let blocks = self.all_blocks()?;
-        for (k, block) in blocks.into_iter().enumerate() {
-            if k == number {
+        match blocks.into_iter().nth(number) {
+            Some(block) => {
                 let count = usize::from(block.get(1).copied().unwrap_or(0));
-                return Ok(Reply {
+                Ok(Reply {
                     told: Told::Saved(count),
                     tags: Vec::new(self.heap),
                     block: Some(block),
-                });
+                })
             }
+            None => Ok(self.says(Told::Denied(14))),
         }
-        Ok(self.says(Told::Denied(14)))
     }
 
     // A feed over so many rows: the whole block is looked at before its first trial.
@@ -311,7 +295,7 @@ impl Second {
         let mut passed = 0usize;
         let mut denied = 0usize;
         let mut gone = 0usize;
-        let mut first = no_fault();
+        let mut first = None;
         for found in trials {
             let reply = self.offer(self.rows, self.rows, found.tag, &found.point)?;
             match reply.told {
@@ -328,13 +312,11 @@ impl Second {
                 }
                 Told::Denied(number) => {
                     denied = denied.saturating_add(1);
-                    if first == no_fault() {
-                        first = Fault {
-                            number,
-                            layer: 3,
-                            place: found.place,
-                        };
-                    }
+                    first = first.or(Some(Fault {
+                        number,
+                        layer: 3,
+                        place: found.place,
+                    }));
                 }
                 _ => {}
             }
@@ -386,11 +368,7 @@ fn sum(former: Told, latter: Told) -> Told {
             passed: passed.saturating_add(passed_more),
             denied: denied.saturating_add(denied_more),
             displaced: displaced.saturating_add(displaced_more),
-            first: if first == no_fault() {
-                first_later
-            } else {
-                first
-            },
+            first: first.or(first_later),
         },
         _ => former,
     }
@@ -417,7 +395,7 @@ pub(crate) fn restore(
         passed: 0,
         denied: 0,
         displaced: 0,
-        first: no_fault(),
+        first: None,
     };
     for block in blocks {
         told = sum(told, archive.feed(rows, block.as_slice())?.told);

@@ -2,9 +2,10 @@
 use crate::apart::{Stop, same};
 use crate::arbitrary::hold_arbitrary;
 use crate::bridge::Figured;
+use crate::case::{Case, case_of};
 use crate::chance::Chance;
-use crate::figures::{Rule, Rules};
-use crate::histories::{History, Kind, Scales};
+use crate::figures::Rule;
+use crate::histories::{History, Kind, Scales, Shape};
 use crate::questions::hold_questions;
 use crate::replays::{hold_calls, hold_plain, hold_recorded};
 use crate::restores::hold_restore;
@@ -15,43 +16,48 @@ use space::{BadGrid, Recorded, Space};
 use std::alloc::{AllocError, Global};
 use step::{Direction, StepSpace};
 
-// The first archive's step space of these rules.
-fn step_space(heap: Global, rules: &[Rule]) -> Result<Result<StepSpace, BadGrid>, AllocError> {
-    let mut scales = Vec::new(heap);
-    for rule in rules {
-        if let Rule::Step {
+// The scale of a step rule.
+fn step_scale(rule: &Rule) -> Option<step::Scale> {
+    match rule {
+        Rule::Step {
             smaller,
             low,
             high,
             step,
-        } = rule
-        {
-            scales.push(step::Scale {
-                direction: if *smaller {
-                    Direction::SmallerIsBetter
-                } else {
-                    Direction::LargerIsBetter
-                },
-                low: *low,
-                high: *high,
-                step: *step,
-            })?;
-        }
+        } => Some(step::Scale {
+            direction: if *smaller {
+                Direction::SmallerIsBetter
+            } else {
+                Direction::LargerIsBetter
+            },
+            low: *low,
+            high: *high,
+            step: *step,
+        }),
+        _ => None,
     }
+}
+
+// The scale of a ratio rule.
+fn ratio_scale(rule: &Rule) -> Option<ratio::Scale> {
+    match rule {
+        Rule::Ratio { per_cent, ceiling } => Some(ratio::Scale {
+            per_cent: *per_cent,
+            ceiling: *ceiling,
+        }),
+        _ => None,
+    }
+}
+
+// The first archive's step space of these rules.
+fn step_space(heap: Global, rules: &[Rule]) -> Result<Result<StepSpace, BadGrid>, AllocError> {
+    let scales: Vec<step::Scale> = rules.iter().filter_map(step_scale).collect(heap)?;
     Ok(StepSpace::new(scales.as_slice()))
 }
 
 // The first archive's ratio space of these rules.
 fn ratio_space(heap: Global, rules: &[Rule]) -> Result<Result<RatioSpace, BadGrid>, AllocError> {
-    let mut scales = Vec::new(heap);
-    for rule in rules {
-        if let Rule::Ratio { per_cent, ceiling } = rule {
-            scales.push(ratio::Scale {
-                per_cent: *per_cent,
-                ceiling: *ceiling,
-            })?;
-        }
-    }
+    let scales: Vec<ratio::Scale> = rules.iter().filter_map(ratio_scale).collect(heap)?;
     Ok(RatioSpace::new(scales.as_slice()))
 }
 
@@ -60,12 +66,8 @@ fn second_fault(rules: &[Rule]) -> Option<u8> {
     if rules.is_empty() || rules.len() > 6 {
         return Some(255);
     }
-    for (i, rule) in rules.iter().enumerate() {
-        if !rule.is_sound() {
-            return u8::try_from(i).ok();
-        }
-    }
-    None
+    let place = rules.iter().position(|rule| !rule.is_sound())?;
+    u8::try_from(place).ok()
 }
 
 // The space, where both archives find nothing wrong with it; none where both tell the same fault.
@@ -114,10 +116,7 @@ fn paired<A: Space + Copy, B: Space + Copy>(
 
 // A history over its space, in every way.
 fn hold_over<S: Recorded + Copy>(
-    heap: Global,
-    space: S,
-    rules: &Rules,
-    history: &History,
+    case: &Case<'_, S>,
     chance: &mut Chance,
     tally: &mut Tally,
 ) -> Result<(), Stop>
@@ -125,25 +124,15 @@ where
     S::Point: Figured,
 {
     one_more(&mut tally.histories);
-    hold_questions(heap, &space, rules, history.points.as_slice(), tally)?;
-    let mut both = hold_calls(heap, space, rules, history, tally)?;
-    hold_recorded(heap, space, rules, history, &both, tally)?;
-    hold_plain(heap, space, rules, history, tally)?;
+    hold_questions(case, tally)?;
+    let mut both = hold_calls(case, tally)?;
+    hold_recorded(case, &both, tally)?;
+    hold_plain(case, tally)?;
     if let Some(both) = &mut both {
-        hold_restore(heap, space, rules, history, both, tally)?;
-        hold_arbitrary(heap, chance, rules, history, both, tally)?;
+        hold_restore(case, both, tally)?;
+        hold_arbitrary(case, chance, both, tally)?;
     }
     Ok(())
-}
-
-// Which of the two spaces that a kind has, if any: two of them, by steps or by ratio.
-fn parts_of(kind: Kind) -> (bool, bool) {
-    match kind {
-        Kind::Step | Kind::StepStep => (false, false),
-        Kind::Ratio | Kind::RatioRatio => (true, true),
-        Kind::StepRatio => (false, true),
-        Kind::RatioStep => (true, false),
-    }
 }
 
 // A history over two spaces side by side.
@@ -168,7 +157,7 @@ where
     let Some(space) = paired(first, second, scales, tally)? else {
         return Ok(());
     };
-    hold_over(heap, space, &scales.rules(), history, chance, tally)
+    hold_over(&case_of(heap, space, history), chance, tally)
 }
 
 // A history over one space.
@@ -182,9 +171,8 @@ fn hold_one<S: Recorded + Copy>(
 where
     S::Point: Figured,
 {
-    let scales = &history.scales;
-    match made(space, scales.first.as_slice(), tally)? {
-        Some(space) => hold_over(heap, space, &scales.rules(), history, chance, tally),
+    match made(space, history.scales.first.as_slice(), tally)? {
+        Some(space) => hold_over(&case_of(heap, space, history), chance, tally),
         None => Ok(()),
     }
 }
@@ -199,31 +187,31 @@ pub(crate) fn hold_history(
     let scales = &history.scales;
     let front = scales.first.as_slice();
     let back = scales.second.as_slice();
-    match (scales.kind.is_pair(), parts_of(scales.kind)) {
-        (false, (false, _)) => {
+    match scales.kind {
+        Kind::Alone(Shape::Step) => {
             let space = step_space(heap, front)?;
             hold_one(heap, space, history, chance, tally)
         }
-        (false, (true, _)) => {
+        Kind::Alone(Shape::Ratio) => {
             let space = ratio_space(heap, front)?;
             hold_one(heap, space, history, chance, tally)
         }
-        (true, (false, false)) => {
+        Kind::Pair(Shape::Step, Shape::Step) => {
             let first = step_space(heap, front)?;
             let second = step_space(heap, back)?;
             hold_pair(heap, first, second, history, chance, tally)
         }
-        (true, (false, true)) => {
+        Kind::Pair(Shape::Step, Shape::Ratio) => {
             let first = step_space(heap, front)?;
             let second = ratio_space(heap, back)?;
             hold_pair(heap, first, second, history, chance, tally)
         }
-        (true, (true, false)) => {
+        Kind::Pair(Shape::Ratio, Shape::Step) => {
             let first = ratio_space(heap, front)?;
             let second = step_space(heap, back)?;
             hold_pair(heap, first, second, history, chance, tally)
         }
-        (true, (true, true)) => {
+        Kind::Pair(Shape::Ratio, Shape::Ratio) => {
             let first = ratio_space(heap, front)?;
             let second = ratio_space(heap, back)?;
             hold_pair(heap, first, second, history, chance, tally)

@@ -55,12 +55,10 @@ impl Tally {
         }
     }
 
-    // A denial of this number; number 0 is none.
+    // A denial of this number.
     pub(crate) fn denial(&mut self, number: u8) {
-        if number > 0 {
-            if let Some(count) = self.denials.get_mut(usize::from(number)) {
-                one_more(count);
-            }
+        if let Some(count) = self.denials.get_mut(usize::from(number)) {
+            one_more(count);
         }
     }
 
@@ -86,7 +84,9 @@ impl Tally {
                 more(&mut self.trials, *passed);
                 more(&mut self.trials, *denied);
                 more(&mut self.displaced, *displaced);
-                self.denial(first.number);
+                if let Some(fault) = first {
+                    self.denial(fault.number);
+                }
             }
             Told::Denied(number) => {
                 if *number == 5 || *number == 6 {

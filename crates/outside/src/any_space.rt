@@ -73,10 +73,14 @@ fn what_stands(rt: HostRuntime) {
     let boxes = [true, true, true, false, true, false];
     let opens = [true, true, true, false, false, false];
     let alone = [true, true, true, false, true, true];
-    for i in 0..6 {
-        assert_eq!(rt; box_stands(&space, &trials, i), boxes[i]);
-        assert_eq!(rt; opens_box(&space, &trials, i), opens[i]);
-        assert_eq!(rt; trial_stands(&space, &trials, i), alone[i]);
+    for (i, stands) in boxes.iter().enumerate() {
+        assert_eq!(rt; box_stands(&space, &trials, i), *stands);
+    }
+    for (i, opens) in opens.iter().enumerate() {
+        assert_eq!(rt; opens_box(&space, &trials, i), *opens);
+    }
+    for (i, stands) in alone.iter().enumerate() {
+        assert_eq!(rt; trial_stands(&space, &trials, i), *stands);
     }
     assert!(rt; !box_stands(&space, &trials, 6));
 }

@@ -11,6 +11,8 @@ mod any_space;
 #[cfg(test)]
 mod ratio_grids;
 #[cfg(test)]
+mod refusals;
+#[cfg(test)]
 mod side_by_side;
 #[cfg(test)]
 mod step_grids;

@@ -1,6 +1,7 @@
 // Ratio spaces: the worked figures, both ends of each range, and every refusal in every objective.
+use crate::refusals::told;
 use ratio::{RatioSpace, Scale};
-use space::{BadGrid, Recorded, Space};
+use space::{Recorded, Space};
 use std::test::Fail;
 
 fn scale(per_cent: u32, ceiling: u32) -> Scale {
@@ -10,14 +11,6 @@ fn scale(per_cent: u32, ceiling: u32) -> Scale {
 // The point of one figure.
 fn only(v: u32) -> [u32; 6] {
     [v, 0, 0, 0, 0, 0]
-}
-
-// What a refusal tells, with its number; none where the space is made.
-fn told(made: Result<RatioSpace, BadGrid>) -> Option<(u8, u8)> {
-    match made {
-        Ok(_) => None,
-        Err(fault) => Some((fault.number(), fault.told())),
-    }
 }
 
 #[test]

@@ -1,5 +1,6 @@
 // Step spaces: the worked figures, both ends of each range, and every refusal in every objective.
-use space::{BadGrid, Recorded, Space};
+use crate::refusals::told;
+use space::{Recorded, Space};
 use std::test::Fail;
 use step::{Direction, Scale, StepSpace};
 
@@ -15,14 +16,6 @@ fn scale(direction: Direction, low: i32, high: i32, step: u32) -> Scale {
 // The point of one figure.
 fn only(v: i32) -> [i32; 6] {
     [v, 0, 0, 0, 0, 0]
-}
-
-// What a refusal tells, with its number; none where the space is made.
-fn told(made: Result<StepSpace, BadGrid>) -> Option<(u8, u8)> {
-    match made {
-        Ok(_) => None,
-        Err(fault) => Some((fault.number(), fault.told())),
-    }
 }
 
 #[test]

@@ -47,10 +47,8 @@ fn calls_over_a_triangle(rt: HostRuntime) -> Result<(), Fail> {
         assert!(rt; false);
         return Ok(());
     };
-    let trials = trials();
-    let fates = fates();
-    for i in 0..6 {
-        assert_eq!(rt; archive.offer(trials[i], &mut rows, &mut list), fates[i]);
+    for (trial, fate) in trials().iter().zip(fates().iter()) {
+        assert_eq!(rt; archive.offer(*trial, &mut rows, &mut list), *fate);
     }
     assert_eq!(rt; list, [1, 77]);
     assert_eq!(rt; archive.audit(&rows), Ok(None));
@@ -109,13 +107,9 @@ fn a_replay_over_a_triangle(rt: HostRuntime) -> Result<(), Fail> {
         assert!(rt; false);
         return Ok(());
     };
-    let fates = fates();
-    for i in 0..6 {
-        let told = match fates[i] {
-            Ok(offered) => Answer::Offered(offered),
-            Err(denial) => Answer::Denied(denial),
-        };
-        assert_eq!(rt; turns[i].answer, Some(told));
+    for (turn, fate) in turns.iter().zip(fates().iter()) {
+        let told = fate.map_or_else(Answer::Denied, Answer::Offered);
+        assert_eq!(rt; turn.answer, Some(told));
     }
     assert_eq!(rt; turns[6].answer, Some(Answer::Denied(Denial::StrangeRows)));
     assert_eq!(rt; turns[7].answer, Some(Answer::Audited(None)));

@@ -59,8 +59,8 @@ fn calls_and_answers(rt: HostRuntime) -> Result<(), Fail> {
         Answer::Denied(Denial::ShortList),
         Answer::Listed(2),
     ];
-    for i in 0..10 {
-        assert_eq!(rt; turns[i].answer, Some(told[i]));
+    for (turn, answer) in turns.iter().zip(told.iter()) {
+        assert_eq!(rt; turn.answer, Some(*answer));
     }
     assert_eq!(rt; list, [1, 4, 77]);
     assert_eq!(rt; archive.list(&own, &mut list), Ok(2));

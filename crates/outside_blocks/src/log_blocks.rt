@@ -22,10 +22,7 @@ fn block(count: u8, bytes: &[(usize, u8)]) -> [u8; 512] {
 
 // What is wrong with a block of two objectives; nothing where it is accepted.
 fn told(bytes: &[u8]) -> Option<Report> {
-    match log_block::check(bytes, 2) {
-        Ok(_) => None,
-        Err(fault) => Some(fault.report()),
-    }
+    log_block::check(bytes, 2).err().map(|fault| fault.report())
 }
 
 fn fault(number: u8, layer: u8, place: usize) -> Option<Report> {

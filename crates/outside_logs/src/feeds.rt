@@ -48,10 +48,7 @@ fn four_trials(rt: HostRuntime) -> Result<(), Fail> {
 
 // The first denied trial of a feed, by number, layer and place.
 fn first_of(answer: Result<Fed, FeedFault>) -> Option<Report> {
-    match answer {
-        Ok(fed) => Some(fed.first_report()),
-        Err(_) => None,
-    }
+    answer.ok().map(|fed| fed.first_report())
 }
 
 fn report(number: u8, layer: u8, place: usize) -> Option<Report> {

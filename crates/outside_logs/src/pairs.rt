@@ -27,10 +27,7 @@ fn pair(direction: Direction, low: i32, high: i32, step: u32) -> Option<Pair> {
         ceiling: 1000,
     }])
     .ok()?;
-    match Beside::new(steps, lives) {
-        Ok(pair) => Some(pair),
-        Err(_) => None,
-    }
+    Beside::new(steps, lives).ok()
 }
 
 fn at(tag: u32, figure: i32, life: u32) -> Trial<Point> {

@@ -123,9 +123,8 @@ fn calls_and_answers(rt: HostRuntime) -> Result<(), Fail> {
     )
     .ok()
     .ok_or("rows")?;
-    let answers = answers();
-    for i in 0..20 {
-        assert_eq!(rt; turns[i].answer, Some(answers[i]), "call {i}");
+    for (i, (turn, answer)) in turns.iter().zip(answers().iter()).enumerate() {
+        assert_eq!(rt; turn.answer, Some(*answer), "call {i}");
     }
     assert_eq!(rt; list, [7, 21, 77]);
     assert!(rt; saved_in_front(&block));

@@ -10,10 +10,9 @@ use step::StepSpace;
 
 // Why these blocks are not restored over these rows, for two objectives from 0 to 9.
 fn refused(rows: &mut [Trial<[i32; 6]>], blocks: &[&[u8]]) -> Option<RestoreFault> {
-    match restore(square(2, 9)?, rows, blocks) {
-        Ok(_) => None,
-        Err(unrestored) => Some(unrestored.fault),
-    }
+    restore(square(2, 9)?, rows, blocks)
+        .err()
+        .map(|unrestored| unrestored.fault)
 }
 
 #[test]
