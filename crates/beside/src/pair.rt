@@ -27,8 +27,8 @@ impl<A: Space, B: Space> Beside<A, B> {
         }
     }
 
-    // Whether the two have at most six objectives together. The maker lets no other pair out,
-    // but the laws speak of every value of the type.
+    // Whether the two have at most six objectives together. The maker lets no other pair out, but the laws speak of every value
+    // of the type. A ghost field would say that they fit; but no derive takes a type that has both parameters and such a field.
     fn fits(&self) -> bool
         ensures { result ≡ fit (A.Space.meaning self.now.first) (B.Space.meaning self.now.second) }
     {

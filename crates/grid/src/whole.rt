@@ -7,7 +7,8 @@ mod questions;
 
 use std::alloc::AllocError;
 
-// The rules in front are in use, one an objective; past them stand rules that are never asked.
+// The rules in front are in use, one an objective; past them stand rules that are never asked. They are an array with their
+// count beside it, and no `Vec`: a logger has no heap, and a space is a plain value that can be copied.
 pub struct Grid<A> {
     axes: [A; 6],
     objectives: usize,

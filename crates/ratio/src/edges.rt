@@ -29,6 +29,7 @@ pub(crate) fn fill_edges(scale: Scale, edges: &mut [u32; MOST]) -> Option<u32>
     ensures filled { (k : ℕ) → k < extent_of scale → k < 1024 → slice_index edges.new k ≡ edge scale.per_cent k }
 {
     let mut edge = 1;
+    // the count is the answer, and the place of the next edge
     for count in 0..MOST {
         if edge > scale.ceiling {
             return Some(count as u32);

@@ -11,7 +11,8 @@ use crate::scaling::Scale;
 use grid::{Axis, Grid};
 
 // A scale with the edges of its boxes: as many as the extent stand in the table, and past them nothing is said.
-// The scale is sound, so the extent is at most the table's length.
+// The scale is sound, so the extent is at most the table's length. The table is an array with its count beside it, and no `Vec`:
+// a logger has no heap, and a rule is a plain value that can be copied.
 #[derive(Clone, Copy)]
 pub struct RatioAxis {
     scale: Scale,

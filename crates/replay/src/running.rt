@@ -1,4 +1,5 @@
-// One call, over the archive's own rows or over strange ones.
+// One call, over the archive's own rows or over strange ones. What is lent goes from function to function as it is: with these
+// borrows in a struct, every contract would also have to promise that each of them is still the same borrow.
 ghost use Rattle.std.specs.Prelude.{◌≡◌, ℕ, ◌≤◌, min, List, [], ◌++◌, length, take, drop, MatchResult, ◌≢◌};
 ghost use Rattle.history.specs.declared.answers.Answer.TheVariants as answer;
 ghost use Rattle.history.specs.Answers.{told};
