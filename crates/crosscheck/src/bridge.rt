@@ -88,7 +88,9 @@ pub(crate) fn fault_of(report: Report) -> Fault {
 }
 
 // What a call told: what it was granted, or the number of its denial.
-pub(crate) fn told<T>(said: Result<T, Denial>, granted: impl FnOnce(T) -> Told) -> Told {
+pub(crate) fn told<T, F: FnOnce(T) -> Told>(said: Result<T, Denial>, granted: F) -> Told
+    requires { F.IsAlwaysCallable granted }
+{
     said.map_or_else(|denial| Told::Denied(denial.number()), granted)
 }
 

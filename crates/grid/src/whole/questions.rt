@@ -26,7 +26,10 @@ impl<A: Axis> Space for Grid<A> {
 
     ghost lawful = { λ s. lawful_rules A.Figure.Figure.bits A.Axis.line s.axes s.objectives (omega (arith, s.few)) A.Axis.lawful s.few.0 s.few.1 };
 
-    fn objectives(&self) -> usize {
+    fn objectives(&self) -> usize
+        ensures value { result ≡ (meaning_by A.Figure.Figure.bits A.Axis.line self.now).objectives }
+        ensures kept { result ≡ self.now.objectives }
+    {
         self.rules().len()
     }
 
