@@ -15,8 +15,8 @@ COMMENT = re.compile(r'^\s*//')
 FUNCTION = re.compile(r'^\s*(?:pub(?:\([a-z]+\))? )?(?:final )?fn (\w+)')
 LOOP = re.compile(r'\bfor \w+ in [^{]*\.\.|\bwhile\b|\bloop \{')
 BY_HAND = re.compile(r'Some\((\w+)\) => Some\(|None => None|Err\((\w+)\) => Err\(|Err\((\w+)\) => return Err\(|'
-                     r'Ok\((\w+)\) => \4,|let Some\((\w+)\) = .* else \{$|if let Err\((\w+)\) = |for .* in .*\.iter\(\) \{$')
-NUMBER = re.compile(r'\) -> u8$|\(bool, bool\)|\b(\w+): bool\b|=> \d+,$')
+                     r'Ok\((\w+)\) => \4,|let Some\((\w+)\) = \5 else \{$|if let Err\((\w+)\) = ')
+NUMBER = re.compile(r'\) -> u8$|\(bool, bool\)|\b\w+: bool\b|\w+::\w+ => \d+,$')
 
 
 def run(*command):
