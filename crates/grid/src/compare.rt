@@ -35,20 +35,14 @@ fn admits_at<A: Axis>(axes: &[A], p: &[A::Figure], i: usize) -> bool
 fn no_worse_at<A: Axis>(axes: &[A], p: &[A::Figure], q: &[A::Figure], i: usize) -> bool
     ensures { result ≡ no_worse_at A.Figure.Figure.bits (map A.Axis.line axes.now) p.now q.now i }
 {
-    match axis_at(axes, i) {
-        Some(axis) => axis.no_worse(figure_at(p, i), figure_at(q, i)),
-        None => true,
-    }
+    axis_at(axes, i).is_none_or(|axis| axis.no_worse(figure_at(p, i), figure_at(q, i)))
 }
 
 // Whether p's figure covers q's at place i.
 fn covers_at<A: Axis>(axes: &[A], p: &[A::Figure], q: &[A::Figure], i: usize) -> bool
     ensures { result ≡ covers_at A.Figure.Figure.bits (map A.Axis.line axes.now) p.now q.now i }
 {
-    match axis_at(axes, i) {
-        Some(axis) => axis.covers(figure_at(p, i), figure_at(q, i)),
-        None => true,
-    }
+    axis_at(axes, i).is_none_or(|axis| axis.covers(figure_at(p, i), figure_at(q, i)))
 }
 
 // Whether each of the first n places admits its figure.
