@@ -4,7 +4,8 @@ use Rattle.std.specs.List.{range_with_len}
 use Rattle.std.proofs.lemmas.List.FromFn.{length-map-range_with_len, get_or-map-range_with_len, map-range_with_len_more, fill_by_all}
 use Rattle.std.proofs.lemmas.List.{length_push, take-append-le, take_all, take_more}
 use Rattle.std.proofs.lemmas.List.Sums.{sum_by_push}
-use Rattle.log_block.specs.Sums.{low_sum, running, high_sum}
+use Rattle.log_block.specs.declared.sums.Sums.{Sums}
+use Rattle.log_block.specs.Sums.{low_sum, running, high_sum, sums_of, with_byte}
 
 -- the first sum after one byte more
 pub low_push : (bs : List ℕ) (b : ℕ) → low_sum (bs ++ b ∷ []) ≡ (low_sum bs + b) % 65536
@@ -39,14 +40,19 @@ pub high_none : high_sum [] ≡ 0
 unfolding high_sum running
 high_none = refl
 
--- the loop's turn at byte i
-pub low_more : (bs : List ℕ) (i : ℕ) → i < length bs → low_sum (take (i + 1) bs) ≡ (low_sum (take i bs) + get_or bs i 0) % 65536
-low_more bs i l = ap low_sum (take_more bs i 0 l) ∙ low_push (take i bs) (get_or bs i 0)
+-- both sums of no bytes, and after byte i
+pub none_summed : ◌≡◌ {A = Sums} (record { low = 0; high = 0 }) (sums_of [])
+none_summed =
+    let low = low_none in
+    let high = high_none in
+    cc
 
-pub high_more : (bs : List ℕ) (i : ℕ) → i < length bs → high_sum (take (i + 1) bs) ≡ (high_sum (take i bs) + low_sum (take (i + 1) bs)) % 65536
-high_more bs i l =
-    let e = take_more bs i 0 l in
-    subst (λ xs. high_sum xs ≡ (high_sum (take i bs) + low_sum xs) % 65536) (sym e) (high_push (take i bs) (get_or bs i 0))
+pub one_more : (bs : List ℕ) (i : ℕ) → i < length bs → with_byte (sums_of (take i bs)) (get_or bs i 0) ≡ sums_of (take (i + 1) bs)
+one_more bs i l =
+    let low = low_push (take i bs) (get_or bs i 0) in
+    let high = high_push (take i bs) (get_or bs i 0) in
+    let more = take_more bs i 0 l in
+    cc
 
 -- both are of 16 bits
 pub low_small : (bs : List ℕ) → low_sum bs < 65536

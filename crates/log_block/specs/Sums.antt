@@ -4,6 +4,7 @@ use Rattle.std.specs.List.{range_with_len}
 use Rattle.word.specs.Word.{pair_at, two_bytes}
 use Rattle.log_block.specs.declared.faults.BlockFault.{BlockFault}
 use Rattle.log_block.specs.declared.faults.BlockFault.TheVariants.{WrongLength}
+use Rattle.log_block.specs.declared.sums.Sums.{Sums}
 
 -- the first sum: of the bytes, modulo 65,536
 unfoldable pub low_sum : List ℕ → ℕ
@@ -16,6 +17,13 @@ running bs = map (λ k. low_sum (take (k + 1) bs)) (range_with_len 0 (length bs)
 -- the second sum: of these values, modulo 65,536
 unfoldable pub high_sum : List ℕ → ℕ
 high_sum bs = sum (running bs) % 65536
+
+-- both sums of some bytes, and both after one byte more
+abbrev pub sums_of : List ℕ → Sums
+sums_of bs = record { low = low_sum bs; high = high_sum bs }
+
+abbrev pub with_byte : Sums → ℕ → Sums
+with_byte s b = record { low = (s.low + b) % 65536; high = (s.high + (s.low + b) % 65536) % 65536 }
 
 -- the bytes that seal what comes before them
 abbrev pub check_bytes : List ℕ → List ℕ

@@ -4,26 +4,24 @@ ghost use Rattle.log_block.specs.Block.{checked, header_check, records_check, ta
 ghost use Rattle.log_block.specs.Reading.{left_to_read};
 
 use crate::faults::{BlockFault, Fault, RecordFault};
+use crate::parts::Block;
 use crate::reading::{Records, first_record, place};
 use crate::sums::is_sealed;
 
-// The block as a whole: its length, its sums, bytes 0, 3 and 2.
-fn check_header(bytes: &[u8], objectives: u8) -> Result<(), BlockFault>
-    ensures { result ≡ header_check objectives bytes.now }
+// The block as a whole: its sums, bytes 0, 3 and 2.
+fn check_header(block: &Block, objectives: u8) -> Result<(), BlockFault>
+    ensures { result ≡ header_check objectives block.now }
 {
-    if bytes.len() != 512 {
-        return Err(BlockFault::WrongLength);
-    }
-    if !is_sealed(bytes) {
+    if !is_sealed(block) {
         return Err(BlockFault::Torn);
     }
-    if bytes[0] != 1 {
+    if block[0] != 1 {
         return Err(BlockFault::StrangeFirst);
     }
-    if bytes[3] != 0 {
+    if block[3] != 0 {
         return Err(BlockFault::StrangeFourth);
     }
-    if bytes[2] != objectives {
+    if block[2] != objectives {
         return Err(BlockFault::OtherGrid);
     }
     Ok(())
@@ -33,12 +31,10 @@ fn check_header(bytes: &[u8], objectives: u8) -> Result<(), BlockFault>
 fn check_tail(rest: &[u8]) -> Result<(), RecordFault>
     ensures { result ≡ tail_check rest.now }
 {
-    for i in 0..rest.len() {
-        if rest[i] != 0 {
-            return Err(RecordFault::Tail(place(&rest[i..])));
-        }
+    match rest.iter().position(|byte| *byte != 0) {
+        Some(at) => Err(RecordFault::Tail(place(&rest[at..]))),
+        None => Ok(()),
     }
-    Ok(())
 }
 
 // The records that are left, and then the tail.
@@ -46,11 +42,8 @@ fn check_records(records: Records<'_>) -> Result<(), RecordFault>
     ensures { result ≡ records_check records.entry.objectives records.entry.count records.entry.rest.now }
 {
     let mut rest = records.rest;
-    let mut count = records.count;
-    while count > 0 {
-        let (_, after) = first_record(rest, records.objectives)?;
-        rest = after;
-        count -= 1;
+    for _ in 0..records.count {
+        (_, rest) = first_record(rest, records.objectives)?;
     }
     check_tail(rest)
 }
@@ -59,10 +52,11 @@ fn check_records(records: Records<'_>) -> Result<(), RecordFault>
 pub fn check(bytes: &[u8], objectives: u8) -> Result<Records<'_>, Fault>
     ensures { MatchResult result (λ found. checked objectives bytes.now ≡ Ok (left_to_read found)) (λ f. checked objectives bytes.now ≡ Err f) }
 {
-    check_header(bytes, objectives)?;
+    let block: &Block = bytes.as_array().ok_or(BlockFault::WrongLength)?;
+    check_header(block, objectives)?;
     let records = Records {
-        rest: &bytes[8..508],
-        count: bytes[1],
+        rest: &block[8..508],
+        count: block[1],
         objectives,
     };
     check_records(records)?;

@@ -69,12 +69,10 @@ impl RecordFault {
     pub fn report(&self) -> Report
         ensures { result ≡ record_report self.now }
     {
-        let place = match self {
-            RecordFault::Overlong(place) => *place,
-            RecordFault::OtherKind(place) => *place,
-            RecordFault::OtherLength(place) => *place,
-            RecordFault::Tail(place) => *place,
-        };
+        let (RecordFault::Overlong(place)
+        | RecordFault::OtherKind(place)
+        | RecordFault::OtherLength(place)
+        | RecordFault::Tail(place)) = *self;
         Report {
             number: 13,
             layer: 2,

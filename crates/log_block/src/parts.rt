@@ -1,4 +1,13 @@
-// A record of a block, as parts of the block.
+// The parts of a block: its bytes, and its records as parts of them.
+
+// The bytes of one block.
+pub(crate) type Block = [u8; 512];
+
+// A record's first byte says its kind. The kinds are matched once, as a record is read: an enum of them would only be read and
+// matched again.
+pub(crate) const TRIAL: u8 = 1;
+
+pub(crate) const NOTE: u8 = 2;
 
 #[derive(Clone, Copy)]
 pub enum Record<'a> {

@@ -1,20 +1,10 @@
-use Rattle.std.proofs.Common.{arith}
-use Rattle.std.proofs.lemmas.List.{at_drop_all}
-use Rattle.log_block.specs.Block.{tail_check}
-use Rattle.log_block.proofs.Tails.{tail_ends, tail_more}
+use Rattle.std.proofs.Common.{sym, ap, ◌∙◌, Err, rules}
+use Rattle.log_block.specs.declared.faults.RecordFault.TheVariants.{Tail}
+use Rattle.log_block.proofs.Tails.{tail_at, tail_none}
 use Rattle.log_block.proofs.checking.check_tail.Goals as goal
 
-pub returns-then-rest-i-ne0 : goal.returns-then-rest-i-ne0
-returns-then-rest-i-ne0 c =
-    let ends = tail_ends c.args.rest.now c.loop-i.i c.loop-i-test.true c.if-rest-i-ne0.true in
-    cc
+pub returns-in-Some : goal.returns-in-Some
+returns-in-Some c = ap (λ at. Err (Tail at)) c.place.ensures ∙ sym (tail_at c.args.rest.now c.in-Some.at (search rules) (search rules) (search rules))
 
-pub loop-i-preserved : goal.loop-i-preserved
-loop-i-preserved c =
-    let more = tail_more c.args.rest.now c.loop-i.i c.loop-i-test.true c.if-rest-i-ne0.false in
-    cc
-
-pub returns : goal.returns
-returns c =
-    let none = at_drop_all tail_check c.args.rest.now c.loop-i.i (omega arith) in
-    cc
+pub returns-in-None : goal.returns-in-None
+returns-in-None c = sym (tail_none c.args.rest.now (search rules))

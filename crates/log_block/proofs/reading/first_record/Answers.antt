@@ -10,19 +10,19 @@ returns-in_default c =
     let short = first_short c.args.objectives c.args.rest.now (search rules) in
     cc
 
-pub returns-then-after-length : goal.returns-then-after-length
-returns-then-after-length c =
+pub returns-in_default-split_at_checked : goal.returns-in_default-split_at_checked
+returns-in_default-split_at_checked c =
     let rest = take_rest c.args.rest.now 2 in
-    let less : length (drop 2 c.args.rest.now) < get_or c.args.rest.now 1 0 = omega (arith, ap length rest) in
+    let less : length (drop 2 c.args.rest.now) < get_or c.args.rest.now 1 0 = omega (arith, ap length rest, c.in_default-split_at_checked.ensures.cases, c.from.ensures) in
     let cut = first_cut c.args.objectives c.args.rest.now (search rules) less in
     cc
 
 pub returns-in_err-record : goal.returns-in_err-record
 returns-in_err-record c =
     let p = err_from_is_err_and c.from_residual.result c.from_residual.ensures.1 in
-    let told = first_told c.args.objectives c.args.rest.now c.from-length.result c.place-place.result c.split_at.result.0.now c.split_at.result.1.now (Err c.in_err-record.field-0.0) (search rules) c.from-length.ensures c.if-after-length.false c.place-place.ensures c.split_at.ensures.front c.split_at.ensures.back c.in_err-record.ensures in
+    let told = first_told c.args.objectives c.args.rest.now c.from.result c.place-place.result c.in-Some.content.now c.in-Some.after.now (Err c.in_err-record.field-0.0) (search rules) c.from.ensures (search rules) c.place-place.ensures (search rules) (search rules) c.in_err-record.ensures in
     rw (p.1, p.2) (sym told)
 
 pub returns : goal.returns
 returns c =
-    sym (first_told c.args.objectives c.args.rest.now c.from-length.result c.place-place.result c.split_at.result.0.now c.split_at.result.1.now (Ok (seen c.in_ok-record.record)) (search rules) c.from-length.ensures c.if-after-length.false c.place-place.ensures c.split_at.ensures.front c.split_at.ensures.back c.in_ok-record.ensures)
+    sym (first_told c.args.objectives c.args.rest.now c.from.result c.place-place.result c.in-Some.content.now c.in-Some.after.now (Ok (seen c.in_ok-record.record)) (search rules) c.from.ensures (search rules) c.place-place.ensures (search rules) (search rules) c.in_ok-record.ensures)
