@@ -4,9 +4,8 @@ pub mod Capacity
 pub mod Decoding
 pub mod Encoding
 pub mod Filling
-pub mod Growing
-pub mod Firsts
 pub mod Fitting
+pub mod Firsts
 pub mod Headers
 pub mod Never
 pub mod Sealing

@@ -4,4 +4,5 @@ pub mod Sums
 pub mod Block
 pub mod Reading
 pub mod Writing
+pub mod Drafts
 pub mod Theorems

@@ -1,5 +1,5 @@
 -- Writing a block: of trials alone, or of records of both kinds.
-use Rattle.std.specs.Prelude.{ℕ, ◌+◌, ◌-◌, ◌*◌, ◌/◌, min, Bool, cond, ◌&&◌, List, [], ◌∷◌, ◌++◌, map, length, take, drop, Ok, Err, Result, ◌==◌, nat_le}
+use Rattle.std.specs.Prelude.{ℕ, ◌+◌, ◌-◌, ◌*◌, ◌/◌, min, Bool, cond, ◌&&◌, List, [], ◌∷◌, ◌++◌, map, length, take, Ok, Err, Result, ◌==◌, nat_le}
 use Rattle.std.specs.List.{flat_map}
 use Rattle.word.specs.Word.{four_bytes}
 use Rattle.log_block.specs.declared.faults.BlockFault.{BlockFault}
@@ -23,10 +23,6 @@ trial_item m t = trial t.tag (take (4 * m) t.point)
 -- the records of the trials that are written
 abbrev pub written_items : ℕ → List TrialBytes → List Item
 written_items m ts = map (trial_item m) (take (written_count m ts) ts)
-
--- these bytes with others written over them, from this place on
-abbrev pub put_at : ℕ → List ℕ → List ℕ → List ℕ
-put_at at bytes bs = take at bs ++ (bytes ++ drop (at + length bytes) bs)
 
 -- a block up to the end of these records, of which there are to be so many
 unfoldable pub so_far : ℕ → ℕ → ℕ → List Item → List ℕ

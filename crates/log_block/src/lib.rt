@@ -4,10 +4,9 @@
 #![tactic(auto)]
 
 mod checking;
+mod drafting;
 mod faults;
-mod packing;
 mod parts;
-mod placing;
 mod reading;
 mod sums;
 mod theorems;
@@ -15,9 +14,8 @@ mod writing;
 
 pub use checking::check;
 pub use faults::{BlockFault, Fault, RecordFault, Report};
-pub use packing::write_records;
 pub use parts::{Placed, Record};
 pub use reading::Records;
 pub use sums::seal;
 pub use theorems::{reads_back, same_bytes, writes_back};
-pub use writing::{TrialBytes, write};
+pub use writing::{TrialBytes, write, write_records};

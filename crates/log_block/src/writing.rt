@@ -1,14 +1,16 @@
-// Writing a block of trials.
-ghost use Rattle.std.specs.Prelude.{◌≡◌, ◌+◌, ◌*◌, ◌≤◌, map, length, Ok, OnOk};
+// Writing a block: of trials alone, or of records of both kinds.
+ghost use Rattle.std.specs.Prelude.{◌≡◌, ◌+◌, ◌≤◌, ℕ, map, length, take, Ok, IfOk, OnOk};
 ghost use Rattle.std.specs.List.{AllByRecursion};
-ghost use Rattle.log_block.specs.Block.{block_of, checked, filled, front};
-ghost use Rattle.log_block.specs.Items.{item_bytes};
+ghost use Rattle.log_block.specs.Block.{block_of, checked, filled};
+ghost use Rattle.log_block.specs.Items.{Item};
+ghost use Rattle.log_block.specs.Reading.{seen};
 ghost use Rattle.log_block.specs.Theorems.{Holds, placed_from};
-ghost use Rattle.log_block.specs.Writing.{capacity, put_at, trial_item, write_answer, written_items, written_over};
+ghost use Rattle.log_block.specs.Writing.{fitting_items, records_answer, records_over, so_far, trial_item, write_answer, written_items, written_over};
 
+use crate::drafting::Draft;
 use crate::faults::BlockFault;
-use crate::placing::{put_trial, write_header};
-use crate::sums::seal;
+use crate::parts::{Block, Record};
+use crate::sums::seal_block;
 
 // A trial as bytes: its tag, and its point's bytes in front. What lies past the bytes of its objectives is not looked at.
 #[derive(Clone, Copy)]
@@ -17,49 +19,79 @@ pub struct TrialBytes {
     pub point: [u8; 24],
 }
 
-// How many trials a block has room for.
-fn room(objectives: u8) -> usize
-    ensures { result ≡ capacity objectives }
-{
-    if objectives <= 6 {
-        500 / (6 + 4 * usize::from(objectives))
-    } else {
-        0
+// What a block is filled with: a value that is a record in a block of any number of objectives.
+trait AsRecord {
+    ghost item: { ℕ → Self → Item };
+
+    // what its type says of each value
+    ghost typed: { Self → Type 0 };
+
+    fn record(&self, objectives: u8) -> Record<'_>
+        ensures item { seen result ≡ item objectives self.now }
+        ensures typed { typed self.now };
+}
+
+impl AsRecord for Record<'_> {
+    ghost item = { λ m given. seen given };
+
+    ghost typed = { λ given. Unit {0} };
+
+    fn record(&self, _objectives: u8) -> Record<'_> {
+        *self
     }
 }
 
-// Writes the record of a trial as bytes into the block, from this place on.
-fn put_bytes(block: &mut [u8], place: usize, objectives: u8, trial: &TrialBytes)
-    requires { (objectives ≤ 6) × (place + (6 + 4 * objectives) ≤ length block.old) }
-    ensures holds { Holds objectives (trial_item objectives trial.now) }
-    ensures after { block.new ≡ put_at place (item_bytes (trial_item objectives trial.now)) block.old }
-{
-    let (point, _) = trial.point.split_at(4 * usize::from(objectives));
-    put_trial(block, place, trial.tag, point);
-}
+impl AsRecord for TrialBytes {
+    ghost item = { trial_item };
 
-// Writes the header, the trials' records, and zeros after them.
-fn write_trials(block: &mut [u8], objectives: u8, number: u32, trials: &[TrialBytes])
-    requires { (length block.old ≡ 512) × (length trials.now ≤ capacity objectives) }
-    ensures holds { AllByRecursion (Holds objectives) (map (trial_item objectives) trials.now) }
-    ensures after { block.new ≡ filled 512 (front objectives number (map (trial_item objectives) trials.now)) }
-{
-    write_header(block, objectives, number, trials.len() as u8);
-    let mut place = 8;
-    for trial in trials {
-        put_bytes(block, place, objectives, trial);
-        place += 6 + 4 * usize::from(objectives);
+    ghost typed = { λ trial. length trial.point ≡ 24 };
+
+    fn record(&self, objectives: u8) -> Record<'_> {
+        let width = (4 * usize::from(objectives)).min(24);
+        Record::Trial {
+            tag: self.tag,
+            point: &self.point[..width],
+        }
     }
 }
 
-// Writes a block of trials that it has room for.
-fn write_block(block: &mut [u8], objectives: u8, number: u32, trials: &[TrialBytes])
-    requires { (length block.old ≡ 512) × (length trials.now ≤ capacity objectives) }
-    ensures after { block.new ≡ block_of objectives number (map (trial_item objectives) trials.now) }
-    ensures accepted { checked objectives block.new ≡ Ok (placed_from 8 (map (trial_item objectives) trials.now)) }
+// Writes as many of these as fit, with no count of them yet and zeros after them, and answers how many these are.
+fn draft<T: AsRecord>(block: &mut Block, objectives: u8, number: u32, given: &[T]) -> usize
+    ensures value { result ≡ length (fitting_items objectives (map (T.item objectives) given.now)) }
+    ensures typed { AllByRecursion T.typed (take (result + 1) given.now) }
+    ensures holds { AllByRecursion (Holds objectives) (fitting_items objectives (map (T.item objectives) given.now)) }
+    ensures within { length (so_far objectives number 0 (fitting_items objectives (map (T.item objectives) given.now))) ≤ 508 }
+    ensures after { block.new ≡ filled 512 (so_far objectives number 0 (fitting_items objectives (map (T.item objectives) given.now))) }
 {
-    write_trials(block, objectives, number, trials);
-    let _ = seal(block);
+    let mut draft = Draft::begin(block, objectives, number);
+    for (i, one) in given.iter().enumerate() {
+        let record = one.record(objectives);
+        if !draft.has_room(&record) {
+            return i;
+        }
+        draft.put_record(&record);
+    }
+    given.len()
+}
+
+// Writes a block of as many of these as fit, in order, and answers how many these are. The first that does not fit, or that
+// no block of so many objectives may hold, ends them.
+fn write_block<T: AsRecord>(
+    block: &mut [u8],
+    objectives: u8,
+    number: u32,
+    given: &[T],
+) -> Result<usize, BlockFault>
+    ensures value { result ≡ records_answer objectives (map (T.item objectives) given.now) block.old }
+    ensures typed { IfOk result (λ n. AllByRecursion T.typed (take (n + 1) given.now)) }
+    ensures after { block.new ≡ records_over objectives number (map (T.item objectives) given.now) block.old }
+    ensures accepted { OnOk result (checked objectives block.new ≡ Ok (placed_from 8 (fitting_items objectives (map (T.item objectives) given.now)))) }
+{
+    let block: &mut Block = block.as_mut_array().ok_or(BlockFault::WrongLength)?;
+    let count = draft(block, objectives, number, given);
+    block[1] = count as u8;
+    seal_block(block);
+    Ok(count)
 }
 
 // Writes a block with as many of the trials as it has room for, in order, and answers how many these are.
@@ -73,11 +105,20 @@ pub fn write(
     ensures after { block.new ≡ written_over objectives number trials.now block.old }
     ensures accepted { OnOk result (checked objectives block.new ≡ Ok (placed_from 8 (written_items objectives trials.now))) }
 {
-    if block.len() != 512 {
-        return Err(BlockFault::WrongLength);
-    }
-    let count = trials.len().min(room(objectives));
-    let (written, _) = trials.split_at(count);
-    write_block(block, objectives, number, written);
-    Ok(count)
+    write_block(block, objectives, number, trials)
+}
+
+// Writes a block of as many of the records as fit, in order, and answers how many these are. The first that does not fit,
+// or that no block of so many objectives may hold, ends them.
+pub fn write_records(
+    block: &mut [u8],
+    objectives: u8,
+    number: u32,
+    records: &[Record<'_>],
+) -> Result<usize, BlockFault>
+    ensures value { result ≡ records_answer objectives (map seen records.now) block.old }
+    ensures after { block.new ≡ records_over objectives number (map seen records.now) block.old }
+    ensures accepted { OnOk result (checked objectives block.new ≡ Ok (placed_from 8 (fitting_items objectives (map seen records.now)))) }
+{
+    write_block(block, objectives, number, records)
 }

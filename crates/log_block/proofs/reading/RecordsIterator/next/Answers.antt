@@ -1,5 +1,4 @@
 use Rattle.std.proofs.Common.{◌≡◌, ◌-◌, ◌∷◌, sym, ◌∙◌, rules, arith}
-use Rattle.log_block.specs.declared.reading.Records.{Records}
 use Rattle.log_block.specs.Reading.{left_to_read, seen, seen_at}
 use Rattle.log_block.proofs.Steps.{in_more, in_none, read_none, read_one}
 use Rattle.log_block.proofs.reading.RecordsIterator.next.Goals as goal
