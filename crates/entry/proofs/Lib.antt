@@ -1,4 +1,3 @@
 pub mod Counting
 pub mod Newlines
 pub mod Spaces
-pub mod Three

@@ -1,9 +1,8 @@
 -- How the lines of a text are found one after the other.
-use Rattle.std.proofs.Common.{◌≡◌, ℕ, zero, suc, ◌+◌, ◌<◌, ◌≤◌, eqb, ltb, List, [], ◌∷◌, ◌++◌, map, length, get_or, take, drop, sym, refl, ap, ◌∙◌, ⊎_elim, arith}
+use Rattle.std.proofs.Common.{◌≡◌, ℕ, zero, suc, ◌+◌, ◌<◌, ◌≤◌, eqb, ltb, List, [], ◌∷◌, ◌++◌, length, get_or, take, drop, sym, refl, ap, ◌∙◌, ⊎_elim, arith}
 use Rattle.std.proofs.lemmas.List.{append-nil, append_assoc, length-append}
-use Rattle.std.proofs.lemmas.Bool.{cases_eq, cond-true, cond-false, cond_both, eq-eqb, ne_eqb, lt-ltb}
-use Rattle.entry.specs.Line.{entry_of}
-use Rattle.entry.specs.Text.{lines_after, lines, first_line, after_line, entries_of}
+use Rattle.std.proofs.lemmas.Bool.{cases_eq, cond-true, cond-false, eq-eqb, ne_eqb, lt-ltb}
+use Rattle.entry.specs.Text.{lines_after, lines, first_line, after_line}
 
 -- a text before and after its first newline, which is at place n; or all of it, where it has none and n is its end
 pub parted : (bs : List ℕ) (n : ℕ) → n ≤ length bs → ((k : ℕ) → k < n → get_or bs k 0 ≡ 10 → ⊥) → (n < length bs → get_or bs n 0 ≡ 10) → (take n bs ≡ first_line bs) × (drop 1 (drop n bs) ≡ after_line bs)
@@ -44,19 +43,3 @@ goes_on l (b ∷ bs) some =
 -- a text that is not empty has its first line, and then the lines after it
 pub lines_more : (bs : List ℕ) → 0 < length bs → lines bs ≡ first_line bs ∷ lines (after_line bs)
 lines_more bs some = goes_on [] bs (omega arith)
-
--- a text that is not empty says what its first line says, and then what the lines after it say
-pub said_more : (bs : List ℕ) → 0 < length bs → entries_of bs ≡ entry_of (first_line bs) ∷ entries_of (after_line bs)
-said_more bs some = ap (map entry_of) (lines_more bs some)
-
--- a byte at least goes with the first line
-after_within : (b : ℕ) (bs : List ℕ) → length (after_line (b ∷ bs)) ≤ length bs
-unfolding after_line
-after_within b [] = cond_both (eqb b 10) [] [] (λ r. length r ≤ 0) (λ e. omega arith) (λ e. omega arith)
-after_within b (a ∷ bs) =
-    cond_both (eqb b 10) (a ∷ bs) (after_line (a ∷ bs)) (λ r. length r ≤ suc (length bs)) (λ e. omega arith) (λ e. omega (arith, after_within a bs))
-
--- so that what is left gets shorter
-pub after_less : (bs : List ℕ) → 0 < length bs → length (after_line bs) < length bs
-after_less [] some = absurd (omega arith)
-after_less (b ∷ bs) some = omega (arith, after_within b bs)

@@ -1,7 +1,7 @@
 -- How the fields of a line are found one after the other.
-use Rattle.std.proofs.Common.{◌≡◌, ℕ, zero, suc, ◌+◌, ◌-◌, ◌<◌, ◌≤◌, eqb, List, [], ◌∷◌, ◌++◌, length, get_or, take, drop, sym, refl, ap, ◌∙◌, ⊎_elim, arith, length-drop, length-take}
-use Rattle.std.proofs.lemmas.List.{append-nil, append_assoc, get_or-drop, drop-drop, drop_all}
-use Rattle.std.proofs.lemmas.Bool.{cases_lt, cond-true, cond-false, eq-eqb, ne_eqb}
+use Rattle.std.proofs.Common.{◌≡◌, ℕ, zero, suc, ◌+◌, ◌-◌, ◌<◌, ◌≤◌, eqb, ltb, List, [], ◌∷◌, ◌++◌, length, get_or, take, drop, sym, refl, ap, ◌∙◌, ⊎_elim, add-zero, arith, length-drop}
+use Rattle.std.proofs.lemmas.List.{append-nil, append_assoc, get_or-drop, drop_all, length-append, length-take-le}
+use Rattle.std.proofs.lemmas.Bool.{cases_lt, cond-true, cond-false, cond_both, eq-eqb, lt-ltb, ltb-true, ne_eqb}
 use Rattle.entry.specs.Line.{closed, fields_after, fields}
 
 -- a space ends a field
@@ -38,27 +38,33 @@ word_closed f (b ∷ bs) h =
     let e = h (omega arith) in
     at_space f b bs e ∙ ap (closed f) (sym (at_space [] b bs e))
 
-module _ (bs : List ℕ) (start end : ℕ) (forward : start ≤ end) (inside : end ≤ length bs)
-    (spaces : (k : ℕ) → k < start → get_or bs k 0 ≡ 32)
-    (word : (k : ℕ) → start ≤ k → k < end → get_or bs k 0 ≡ 32 → ⊥)
-    (ended : end < length bs → get_or bs end 0 ≡ 32) where
-  -- what is left after the field
-  rest_is : drop (end - start) (drop start bs) ≡ drop end bs
-  rest_is = let e : start + (end - start) ≡ end = omega arith in drop-drop (end - start) start bs ∙ ap (λ n. drop n bs) e
+-- a line is its first field, which is not empty, and the fields of what follows
+pub first_and_rest : (bs line : List ℕ) (start n : ℕ) → start < length bs → ((k : ℕ) → k < start → get_or bs k 0 ≡ 32) → (get_or bs start 0 ≡ 32 → ⊥) → line ≡ drop start bs → n ≤ length line → ((k : ℕ) → k < n → get_or line k 0 ≡ 32 → ⊥) → (n < length line → get_or line n 0 ≡ 32) → fields bs ≡ take n line ∷ fields (drop n line)
+first_and_rest bs line start n inside spaces begun is within word ended =
+    let at : (k : ℕ) → get_or line k 0 ≡ get_or bs (start + k) 0 = λ k. ap (λ l. get_or l k 0) is ∙ get_or-drop start bs k 0 in
+    let left : length line ≡ length bs - start = ap length is ∙ length-drop start bs in
+    let first : get_or line 0 0 ≡ 32 → ⊥ = λ e. begun (sym (at 0 ∙ ap (λ k. get_or bs k 0) (add-zero start)) ∙ e) in
+    let some : 0 < n = ⊎_elim (λ l. l) (λ l. let none : n ≡ 0 = omega arith in absurd (first (ap (λ k. get_or line k 0) (sym none) ∙ ended (omega arith)))) (cases_lt 0 n) in
+    let long = length-take-le n line within in
+    spaces_skipped bs start (omega arith) spaces
+    ∙ (ap fields (sym is)
+    ∙ (word_read [] line n within word
+    ∙ (word_closed (take n line) (drop n line) (λ l. get_or-drop n line 0 0 ∙ (ap (λ k. get_or line k 0) (add-zero n) ∙ ended (omega (arith, length-drop n line))))
+    ∙ cond-true (ltb 0 (length (take n line))) (take n line ∷ fields (drop n line)) (fields (drop n line)) (lt-ltb 0 (length (take n line)) (omega arith)))))
 
-  -- a line is its first field and the fields of what follows
-  pub first_and_rest : fields bs ≡ closed (take (end - start) (drop start bs)) (fields (drop end bs))
-  first_and_rest =
-      spaces_skipped bs start (omega arith) spaces
-      ∙ word_read [] (drop start bs) (end - start) (omega (arith, length-drop start bs)) (λ k l e. word (start + k) (omega arith) (omega arith) (sym (get_or-drop start bs k 0) ∙ e))
-      ∙ ap (λ r. fields_after (take (end - start) (drop start bs)) r) rest_is
-      ∙ word_closed (take (end - start) (drop start bs)) (drop end bs)
-      (λ l. get_or-drop end bs 0 0 ∙ ap (λ n. get_or bs n 0) (omega arith) ∙ ended (omega (arith, length-drop end bs)))
+-- a line of spaces has none
+pub none_left : (bs : List ℕ) → ((k : ℕ) → k < length bs → get_or bs k 0 ≡ 32) → fields bs ≡ []
+unfolding fields_after
+none_left bs spaces = spaces_skipped bs (length bs) (omega arith) spaces ∙ ap fields (drop_all (length bs) bs (omega arith))
 
-  -- an empty field comes only at the line's end
-  pub none_left : (start < length bs → get_or bs start 0 ≡ 32 → ⊥) → length (take (end - start) (drop start bs)) ≡ 0 → fields bs ≡ []
-  unfolding fields_after
-  none_left begun empty =
-      let same : end ≡ start = omega (arith, length-take (end - start) (drop start bs), length-drop start bs) in
-      let past : length bs ≤ start = ⊎_elim (λ l. absurd (begun l (ap (λ n. get_or bs n 0) (sym same) ∙ ended (omega arith)))) (λ l. l) (cases_lt start (length bs)) in
-      spaces_skipped bs start (omega arith) spaces ∙ ap fields (drop_all start bs past)
+-- there are no more fields than bytes
+few_after : (f bs : List ℕ) → length (fields_after f bs) ≤ length f + length bs
+unfolding fields_after
+few_after f [] = cond_both (ltb 0 (length f)) (f ∷ []) [] (λ fs. length fs ≤ length f + 0) (λ e. omega (arith, ltb-true 0 (length f) e)) (λ e. omega arith)
+few_after f (b ∷ bs) =
+    cond_both (eqb b 32) (closed f (fields_after [] bs)) (fields_after (f ++ (b ∷ [])) bs) (λ fs. length fs ≤ length f + suc (length bs))
+    (λ e. cond_both (ltb 0 (length f)) (f ∷ fields_after [] bs) (fields_after [] bs) (λ fs. length fs ≤ length f + suc (length bs)) (λ t. omega (arith, few_after [] bs, ltb-true 0 (length f) t)) (λ t. omega (arith, few_after [] bs)))
+    (λ e. omega (arith, few_after (f ++ (b ∷ [])) bs, length-append f (b ∷ [])))
+
+pub fields_few : (bs : List ℕ) → length (fields bs) ≤ length bs
+fields_few bs = omega (arith, few_after [] bs)

@@ -1,6 +1,6 @@
 // The fields of a line: the bytes between its spaces.
-ghost use Rattle.std.specs.Prelude.{◌≡◌, ℕ, ◌+◌, ◌<◌, ◌≤◌, [], length, ◌≢◌, slice_index};
-ghost use Rattle.entry.specs.Line.{without_return, closed, fields};
+ghost use Rattle.std.specs.Prelude.{◌≡◌, ℕ, ◌<◌, ◌≤◌, length, ◌≢◌, slice_index};
+ghost use Rattle.entry.specs.Line.{without_return};
 
 // The line without a carriage return at its end, which text from some systems has.
 pub fn without_return(line: &[u8]) -> &[u8]
@@ -12,59 +12,37 @@ pub fn without_return(line: &[u8]) -> &[u8]
     }
 }
 
-// Where the spaces at the line's front end.
-fn skip_spaces(line: &[u8]) -> usize
-    ensures within { result ≤ length line.now }
-    ensures before { (k : ℕ) → k < result → slice_index line.now k ≡ 32 }
-    ensures found { result < length line.now → slice_index line.now result ≢ 32 }
+// How many bytes there are before the first space.
+fn field_len(bytes: &[u8]) -> usize
+    ensures within { result ≤ length bytes.now }
+    ensures before { (k : ℕ) → k < result → slice_index bytes.now k ≢ 32 }
+    ensures found { result < length bytes.now → slice_index bytes.now result ≡ 32 }
 {
-    for (i, b) in line.iter().enumerate() {
-        if *b != b' ' {
-            return i;
-        }
-    }
-    line.len()
+    bytes.iter().take_while(|byte| **byte != b' ').count()
 }
 
-// Where the first space from a place on is, or the line's end.
-fn field_end(line: &[u8], start: usize) -> usize
-    requires { start ≤ length line.now }
-    ensures within { result ≤ length line.now }
-    ensures after { start ≤ result }
-    ensures before { (k : ℕ) → start ≤ k → k < result → slice_index line.now k ≢ 32 }
-    ensures found { result < length line.now → slice_index line.now result ≡ 32 }
-{
-    for i in start..line.len() {
-        if line[i] == b' ' {
-            return i;
-        }
-    }
-    line.len()
+// The fields of what is left of a line.
+#[derive(Clone, Copy)]
+pub(crate) struct Fields<'a> {
+    pub(crate) rest: &'a [u8],
 }
 
-// The first field and what follows it; an empty field where there is none.
-pub(crate) fn next_field(line: &[u8]) -> (&[u8], &[u8])
-    ensures parts { fields line.now ≡ closed result.0.now (fields result.1.now) }
-    ensures none { length result.0.now ≡ 0 → fields line.now ≡ [] }
-    ensures less { length result.0.now + length result.1.now ≤ length line.now }
-{
-    let start = skip_spaces(line);
-    let end = field_end(line, start);
-    (&line[start..end], &line[end..])
-}
+impl<'a> Iterator for Fields<'a> {
+    ghost use Rattle.std.specs.Iterator.{item_count, YieldsFirstRef};
+    ghost use Rattle.entry.specs.Line.{fields};
 
-// How many fields there are.
-pub(crate) fn count_fields(line: &[u8]) -> usize
-    ensures { result ≡ length (fields line.now) }
-{
-    let mut count = 0;
-    let mut rest = line;
-    loop {
-        let (field, after) = next_field(rest);
-        if field.is_empty() {
-            return count;
-        }
-        count += 1;
-        rest = after;
+    type Item = &'a [u8];
+
+    ghost next_gives = { YieldsFirstRef (λ s. fields s.rest.now) };
+
+    ghost remaining = { item_count (λ s. fields s.rest.now) };
+
+    // The bytes up to the next space, without the spaces in front of them.
+    fn next(&mut self) -> Option<&'a [u8]> {
+        let start = self.rest.iter().position(|byte| *byte != b' ')?;
+        let (_, rest) = self.rest.split_at(start);
+        let (field, rest) = rest.split_at(field_len(rest));
+        self.rest = rest;
+        Some(field)
     }
 }

@@ -11,7 +11,7 @@ mod text;
 pub use fields::without_return;
 pub use outcome::{Entry, Malformed};
 pub use reading::read_entry;
-pub use text::{next_line, read_entries};
+pub use text::{TextLines, lines, next_line, read_entries};
 
 #[cfg(test)]
 mod tests;

@@ -1,6 +1,6 @@
 // The number that a field writes.
 ghost use Rattle.std.specs.Prelude.{◌≡◌, ◌^◌, ◌<◌, ◌≤◌};
-ghost use Rattle.entry.specs.Line.{number_below, unsigned, signed};
+ghost use Rattle.entry.specs.Line.{number_below, signed, unsigned};
 
 // The number that digits write, where there is one at least and the number is below the limit.
 fn read_below(digits: &[u8], limit: u64) -> Option<u64>
@@ -10,9 +10,10 @@ fn read_below(digits: &[u8], limit: u64) -> Option<u64>
     if digits.is_empty() {
         return None;
     }
+    // a loop and no fold: that the number stays below the limit is known at each turn of a loop alone
     let mut number = 0;
     for b in digits {
-        if *b < b'0' || *b > b'9' {
+        if !b.is_ascii_digit() {
             return None;
         }
         number = 10 * number + u64::from(*b - b'0');
@@ -28,10 +29,7 @@ fn read_below(digits: &[u8], limit: u64) -> Option<u64>
 pub(crate) fn read_unsigned(field: &[u8]) -> Option<u32>
     ensures { result ≡ unsigned field.now }
 {
-    match read_below(field, 1 << 32) {
-        Some(number) => Some(number as u32),
-        None => None,
-    }
+    read_below(field, 1 << 32).map(|number| number as u32)
 }
 
 // The signed number of 32 bits that a field writes: a `-` in front makes it negative.
@@ -39,13 +37,9 @@ pub(crate) fn read_signed(field: &[u8]) -> Option<i32>
     ensures { result ≡ signed field.now }
 {
     match field {
-        [b'-', digits @ ..] => match read_below(digits, (1 << 31) + 1) {
-            Some(number) => Some(-(number as i64) as i32),
-            None => None,
-        },
-        _ => match read_below(field, 1 << 31) {
-            Some(number) => Some(number as i32),
-            None => None,
-        },
+        [b'-', digits @ ..] => {
+            read_below(digits, (1 << 31) + 1).map(|number| -(number as i64) as i32)
+        }
+        _ => read_below(field, 1 << 31).map(|number| number as i32),
     }
 }

@@ -1,24 +1,18 @@
 // A line as an entry.
 ghost use Rattle.std.specs.Prelude.{◌≡◌};
-ghost use Rattle.entry.specs.Line.{fields, joined, entry_of_fields, entry_of};
+ghost use Rattle.entry.specs.Line.{entry_of, entry_of_fields, fields, joined, signed, unsigned};
 
-use crate::fields::{count_fields, next_field, without_return};
+use crate::fields::{Fields, without_return};
 use crate::numbers::{read_signed, read_unsigned};
 use crate::outcome::{Entry, Malformed};
 
-// The entry of three numbers, or the first that is none.
-fn join(tag: Option<u32>, delay: Option<i32>, life: Option<u32>) -> Result<Entry, Malformed>
-    ensures { result ≡ joined tag delay life }
+// The entry that three fields say, or the first of them that is no number in range.
+fn read_three(tag: &[u8], delay: &[u8], life: &[u8]) -> Result<Entry, Malformed>
+    ensures { result ≡ joined (unsigned tag.now) (signed delay.now) (unsigned life.now) }
 {
-    let Some(tag) = tag else {
-        return Err(Malformed::Tag);
-    };
-    let Some(delay) = delay else {
-        return Err(Malformed::Delay);
-    };
-    let Some(life) = life else {
-        return Err(Malformed::Life);
-    };
+    let tag = read_unsigned(tag).ok_or(Malformed::Tag)?;
+    let delay = read_signed(delay).ok_or(Malformed::Delay)?;
+    let life = read_unsigned(life).ok_or(Malformed::Life)?;
     Ok(Entry { tag, delay, life })
 }
 
@@ -26,14 +20,11 @@ fn join(tag: Option<u32>, delay: Option<i32>, life: Option<u32>) -> Result<Entry
 fn read_fields(line: &[u8]) -> Result<Entry, Malformed>
     ensures { result ≡ entry_of_fields (fields line.now) }
 {
-    let count = count_fields(line);
-    if count != 3 {
-        return Err(Malformed::Fields(count));
+    let mut fields = Fields { rest: line };
+    match (fields.next(), fields.next(), fields.next(), fields.next()) {
+        (Some(tag), Some(delay), Some(life), None) => read_three(tag, delay, life),
+        _ => Err(Malformed::Fields(Fields { rest: line }.count())),
     }
-    let (tag, rest) = next_field(line);
-    let (delay, rest) = next_field(rest);
-    let (life, _) = next_field(rest);
-    join(read_unsigned(tag), read_signed(delay), read_unsigned(life))
 }
 
 // What a line says: `TAG DELAY LIFE`, or what is wrong with it.

@@ -1,34 +1,53 @@
 // The lines of a text, and what each says.
-ghost use Rattle.std.specs.Prelude.{◌≡◌, ℕ, ◌<◌, ◌≤◌, length, IfOk, ◌≢◌, slice_index};
-ghost use Rattle.entry.specs.Text.{first_line, after_line, entries_of};
+ghost use Rattle.std.specs.Prelude.{◌≡◌, IfOk};
+ghost use Rattle.entry.specs.Text.{after_line, entries_of, first_line, lines};
+ghost use Rattle.entry.specs.Lines.{lines_left};
 
 use crate::outcome::{Entry, Malformed};
 use crate::reading::read_entry;
 use std::alloc::{AllocError, Global};
-
-// Where the first newline is, or the text's end.
-fn line_end(text: &[u8]) -> usize
-    ensures within { result ≤ length text.now }
-    ensures before { (k : ℕ) → k < result → slice_index text.now k ≢ 10 }
-    ensures found { result < length text.now → slice_index text.now result ≡ 10 }
-{
-    for (i, b) in text.iter().enumerate() {
-        if *b == b'\n' {
-            return i;
-        }
-    }
-    text.len()
-}
 
 // The first line and what follows its newline; nothing follows where there is none.
 pub fn next_line(text: &[u8]) -> (&[u8], &[u8])
     ensures line { result.0.now ≡ first_line text.now }
     ensures rest { result.1.now ≡ after_line text.now }
 {
-    let (line, rest) = text.split_at(line_end(text));
-    match rest {
-        [_, after @ ..] => (line, after),
-        [] => (line, rest),
+    match text.iter().position(|byte| *byte == b'\n') {
+        Some(end) => (&text[..end], &text[end + 1..]),
+        None => (text, &[]),
+    }
+}
+
+// The lines of what is left of a text.
+#[derive(Clone, Copy)]
+pub struct TextLines<'a> {
+    rest: &'a [u8],
+}
+
+// The lines of a text, one after the other.
+pub fn lines(text: &[u8]) -> TextLines<'_>
+    ensures { lines_left result ≡ lines text.now }
+{
+    TextLines { rest: text }
+}
+
+impl<'a> Iterator for TextLines<'a> {
+    ghost use Rattle.std.specs.Iterator.{item_count, YieldsFirstRef};
+    ghost use Rattle.entry.specs.Lines.{lines_left};
+
+    type Item = &'a [u8];
+
+    ghost next_gives = { YieldsFirstRef lines_left };
+
+    ghost remaining = { item_count lines_left };
+
+    fn next(&mut self) -> Option<&'a [u8]> {
+        if self.rest.is_empty() {
+            return None;
+        }
+        let (line, rest) = next_line(self.rest);
+        self.rest = rest;
+        Some(line)
     }
 }
 
@@ -36,12 +55,5 @@ pub fn next_line(text: &[u8]) -> (&[u8], &[u8])
 pub fn read_entries(heap: Global, text: &[u8]) -> Result<Vec<Result<Entry, Malformed>>, AllocError>
     ensures { IfOk result (λ v. v.items ≡ entries_of text.now) }
 {
-    let mut entries = Vec::new(heap);
-    let mut rest = text;
-    while !rest.is_empty() {
-        let (line, after) = next_line(rest);
-        entries.push(read_entry(line))?;
-        rest = after;
-    }
-    Ok(entries)
+    lines(text).map(read_entry).collect(heap)
 }

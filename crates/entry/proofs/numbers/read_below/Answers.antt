@@ -3,12 +3,10 @@ use Rattle.std.proofs.lemmas.Bool.Decides.{nat_tests}
 use Rattle.entry.specs.Line.{digit}
 use Rattle.entry.proofs.Counting.{fails_here, over_here, made_more, made_all}
 use Rattle.entry.proofs.numbers.read_below.Goals as goal
-use Rattle.entry.proofs.numbers.read_below.Goals.{then-b-lt48-via-then-b-lt48, then-b-lt48-via-else-b-lt48+then-b-gt57}
 
-pub returns-then-b-lt48 : goal.returns-then-b-lt48
-returns-then-b-lt48 c =
-    let here : digit (get_or c.args.digits.now c.loop-b.b-index 0) ≡ false =
-    elim c.then-b-lt48.branch [ then-b-lt48-via-then-b-lt48 w ↦ grind (arith, nat_tests) | then-b-lt48-via-else-b-lt48+then-b-gt57 w ↦ grind (arith, nat_tests) ] in
+pub returns-then-not-is_ascii_digit : goal.returns-then-not-is_ascii_digit
+returns-then-not-is_ascii_digit c =
+    let here : digit (get_or c.args.digits.now c.loop-b.b-index 0) ≡ false = grind (arith, nat_tests) in
     fails_here c.args.limit c.args.digits.now c.loop-b.b-index c.loop-b.number c.loop-b.invariant.0 c.loop-b-test.true here
 
 pub returns-then-number-limit : goal.returns-then-number-limit
