@@ -19,11 +19,6 @@ from_zero : (limit : ℕ) (ds : List ℕ) → 0 < length ds → number_below lim
 from_zero limit ds l =
     ap (λ t. cond (t && (digits ds && ltb (decimal_after 0 ds) limit)) (Some (decimal_after 0 ds)) None) (lt-ltb 0 (length ds) l)
 
--- an empty one is none
-pub none_empty : (limit : ℕ) (ds : List ℕ) → length ds ≡ 0 → number_below limit ds ≡ None
-none_empty limit ds e =
-    ap (λ t. cond (t && (digits ds && ltb (decimal_after 0 ds) limit)) (Some (decimal_after 0 ds)) None) (le-ltb 0 (length ds) (omega arith))
-
 -- one more digit
 digit_more : (limit n d : ℕ) (ds : List ℕ) → digit d ≡ true → number_after limit n (d ∷ ds) ≡ number_after limit (10 * n + (d - 48)) ds
 unfolding digits decimal_after

@@ -1,10 +1,11 @@
 -- The trials of a text, line by line.
 use Rattle.std.proofs.Common.{◌≡◌, ℕ, ◌+◌, ◌<◌, List, [], ◌∷◌, ◌++◌, length, get_or, drop, ℤ, Ok, Err, Result, refl, sym, ap, ◌∙◌}
+use Rattle.std.specs.List.{filter_map}
 use Rattle.std.proofs.lemmas.List.{append_assoc, at_drop_more}
 use Rattle.space.specs.declared.tagged.Trial.{Trial}
 use Rattle.entry.specs.declared.outcome.Entry.{Entry}
 use Rattle.entry.specs.declared.outcome.Malformed.{Malformed}
-use Rattle.logger.specs.Logger.{trials_of}
+use Rattle.logger.specs.Logger.{trial_of, trial_of_line, trials_of}
 
 -- the trials of the first line, and then those of the others
 first_line : (l : Result Entry Malformed) (ls : List (Result Entry Malformed)) → trials_of (l ∷ ls) ≡ trials_of (l ∷ []) ++ trials_of ls
@@ -16,3 +17,9 @@ pub one_more : (ts : List (Trial (List ℤ × List ℕ))) (ls : List (Result Ent
 one_more ts ls i d within so_far =
     let next = at_drop_more trials_of ls i d within ∙ first_line (get_or ls i d) (drop (i + 1) ls) in
     append_assoc ts (trials_of (get_or ls i d ∷ [])) (trials_of (drop (i + 1) ls)) ∙ ap (λ r. ts ++ r) (sym next) ∙ so_far
+
+-- they are those of the lines, without those of the lines that tell of none
+pub trials_told : (ls : List (Result Entry Malformed)) → filter_map trial_of_line ls ≡ trials_of ls
+trials_told [] = refl
+trials_told (Ok e ∷ ls) = ap (λ ts. trial_of e ∷ ts) (trials_told ls)
+trials_told (Err m ∷ ls) = trials_told ls

@@ -1,5 +1,5 @@
 -- What a logger's trials are compared in, how their points are bytes, and which trials the lines of a text tell of.
-use Rattle.std.specs.Prelude.{ℕ, List, [], ◌∷◌, ℤ, pos, Ok, Err, Result}
+use Rattle.std.specs.Prelude.{ℕ, List, [], ◌∷◌, ℤ, pos, Ok, Err, Some, None, Option, Result}
 use Rattle.space.specs.declared.tagged.Trial.{Trial}
 use Rattle.space.specs.Meaning.{Meaning}
 use Rattle.space.specs.Recording.{Recording}
@@ -47,6 +47,11 @@ logger_bytes = joined_bytes delay_bytes life_bytes
 -- the trial that an entry tells of
 abbrev pub trial_of : Entry → Trial (List ℤ × List ℕ)
 trial_of e = record { point = (e.delay ∷ pos 0 ∷ pos 0 ∷ pos 0 ∷ pos 0 ∷ pos 0 ∷ [], e.life ∷ 0 ∷ 0 ∷ 0 ∷ 0 ∷ 0 ∷ []); tag = e.tag }
+
+-- the trial of a line, if it tells of one
+abbrev pub trial_of_line : Result Entry Malformed → Option (Trial (List ℤ × List ℕ))
+trial_of_line (Ok e) = Some (trial_of e)
+trial_of_line (Err m) = None
 
 -- the trials of the lines that tell of one, in their order
 abbrev pub trials_of : List (Result Entry Malformed) → List (Trial (List ℤ × List ℕ))

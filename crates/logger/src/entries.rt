@@ -1,6 +1,6 @@
 // The trials that the entries of a text tell of.
-ghost use Rattle.std.specs.Prelude.{◌≡◌, [], ◌∷◌, ◌++◌, IfOk, OnOk};
-ghost use Rattle.logger.specs.Logger.{trial_of, trials_of};
+ghost use Rattle.std.specs.Prelude.{◌≡◌, IfOk};
+ghost use Rattle.logger.specs.Logger.{trial_of, trial_of_line, trials_of};
 
 use crate::scales::Point;
 use entry::{Entry, Malformed};
@@ -17,14 +17,11 @@ pub fn trial_of(entry: &Entry) -> Trial<Point>
     }
 }
 
-// Adds the trial of a line, on the grid or not, if it tells of one.
-fn add(trials: &mut Vec<Trial<Point>>, line: &Result<Entry, Malformed>) -> Result<(), AllocError>
-    ensures { OnOk result (trials.new.items ≡ trials.old.items ++ trials_of (line.now ∷ [])) }
+// The trial of a line, on the grid or not, if it tells of one.
+fn trial_of_line(line: &Result<Entry, Malformed>) -> Option<Trial<Point>>
+    ensures { result ≡ trial_of_line line.now }
 {
-    if let Ok(entry) = line {
-        trials.push(trial_of(entry))?;
-    }
-    Ok(())
+    line.as_ref().ok().map(trial_of)
 }
 
 // The trials of the lines that tell of one, in their order.
@@ -34,9 +31,5 @@ pub fn trials_of(
 ) -> Result<Vec<Trial<Point>>, AllocError>
     ensures { IfOk result (λ v. v.items ≡ trials_of lines.now) }
 {
-    let mut trials = Vec::new(heap);
-    for line in lines {
-        add(&mut trials, line)?;
-    }
-    Ok(trials)
+    lines.iter().filter_map(trial_of_line).collect(heap)
 }
