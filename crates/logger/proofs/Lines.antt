@@ -8,15 +8,9 @@ use Rattle.entry.specs.declared.outcome.Malformed.{Malformed}
 use Rattle.logger.specs.Logger.{trial_of, trial_of_line, trials_of}
 
 -- the trials of the first line, and then those of the others
-first_line : (l : Result Entry Malformed) (ls : List (Result Entry Malformed)) → trials_of (l ∷ ls) ≡ trials_of (l ∷ []) ++ trials_of ls
+pub first_line : (l : Result Entry Malformed) (ls : List (Result Entry Malformed)) → trials_of (l ∷ ls) ≡ trials_of (l ∷ []) ++ trials_of ls
 first_line (Ok e) ls = refl
 first_line (Err m) ls = refl
-
--- one line more
-pub one_more : (ts : List (Trial (List ℤ × List ℕ))) (ls : List (Result Entry Malformed)) (i : ℕ) (d : Result Entry Malformed) → i < length ls → ts ++ trials_of (drop i ls) ≡ trials_of ls → (ts ++ trials_of (get_or ls i d ∷ [])) ++ trials_of (drop (i + 1) ls) ≡ trials_of ls
-one_more ts ls i d within so_far =
-    let next = at_drop_more trials_of ls i d within ∙ first_line (get_or ls i d) (drop (i + 1) ls) in
-    append_assoc ts (trials_of (get_or ls i d ∷ [])) (trials_of (drop (i + 1) ls)) ∙ ap (λ r. ts ++ r) (sym next) ∙ so_far
 
 -- they are those of the lines, without those of the lines that tell of none
 pub trials_told : (ls : List (Result Entry Malformed)) → filter_map trial_of_line ls ≡ trials_of ls

@@ -1,25 +1,22 @@
 -- What lines give: a note is no entry, and a block may hold each record alone.
-use Rattle.std.proofs.Common.{◌≡◌, ℕ, ◌+◌, ◌<◌, cond, eqb, leb, List, [], ◌∷◌, ◌++◌, map, length, get_or, take, drop, codes, Some, None, Ok, Err, Option, Result, sym, refl, ap, ◌∙◌, ⊎_elim, arith}
+use Rattle.std.proofs.Common.{◌≡◌, ℕ, ◌+◌, ◌<◌, cond, eqb, leb, List, [], ◌∷◌, ◌++◌, map, length, get_or, take, drop, codes, Some, None, Ok, Err, Option, Result, sym, refl, ap, ◌∙◌, ⊎_elim}
 use Rattle.std.specs.List.{flat_map}
 use Rattle.std.specs.Str.{bytes_eq}
 use Rattle.std.proofs.lemmas.Bool.{cases_Bool, cond_both, cond-false, leb-true}
-use Rattle.std.proofs.lemmas.List.{append_assoc, flat_map_more, map-append, map_more, take-append-drop}
+use Rattle.std.proofs.lemmas.List.{flat_map_more, map_more, take-append-drop}
 use Rattle.std.proofs.lemmas.Slice.Eq.{bytes_eq-Decides}
 use Rattle.space.specs.Recording.{read_point}
 use Rattle.entry.specs.declared.outcome.Entry.{Entry}
 use Rattle.entry.specs.declared.outcome.Malformed.{Malformed}
 use Rattle.entry.specs.Line.{digits, entry_of, entry_of_fields, fields, fields_after, without_return}
-use Rattle.entry.specs.Text.{after_line, entries_of, first_line, lines}
-use Rattle.entry.proofs.Newlines.{said_more}
 use Rattle.logger.specs.Logger.{logger_bytes, trials_of}
-use Rattle.logger.proofs.Lines.{one_more}
+use Rattle.logger.proofs.Lines.{first_line as all_trials}
 use Rattle.log_block.specs.Items.{Item, trial, note}
 use Rattle.logwrite.specs.declared.saying.Line.{Line}
 use Rattle.logwrite.specs.declared.saying.Unsaid.{Unsaid}
 use Rattle.logwrite.specs.Lines.{given, item_from, item_of_line, note_of, told, trials_read}
 use Rattle.logwrite.proofs.Points.{entry_alone, note_alone}
 use Rattle.logwrite.proofs.Sharing.{Alone}
-use Rattle.entry.proofs.Newlines.{lines_more}
 
 -- fields of which the first is the word say no entry
 no_entry : (fs : List (List ℕ)) → trials_of (entry_of_fields (codes "note" ∷ fs) ∷ []) ≡ []
@@ -79,20 +76,14 @@ trials_more [] ys = refl
 trials_more (trial tag point ∷ xs) ys = ap (λ ts. record { point = read_point logger_bytes point; tag = tag } ∷ ts) (trials_more xs ys)
 trials_more (note text ∷ xs) ys = trials_more xs ys
 
-module _ (ls : List (Result Line Unsaid)) (x : Result Line Unsaid) (text rest : List ℕ) (some : 0 < length rest) where
-  -- what one line of a text more gives
-  pub items_said : told x ≡ item_of_line (first_line rest) → map told ls ++ map item_of_line (lines rest) ≡ map item_of_line (lines text) → map told (ls ++ x ∷ []) ++ map item_of_line (lines (after_line rest)) ≡ map item_of_line (lines text)
-  items_said said so_far =
-      let later = map item_of_line (lines (after_line rest)) in
-      let here : told x ∷ later ≡ map item_of_line (lines rest) = ap (λ y. y ∷ later) said ∙ sym (ap (map item_of_line) (lines_more rest some)) in
-      ap (λ ys. ys ++ later) (map-append told ls (x ∷ [])) ∙ (append_assoc (map told ls) (told x ∷ []) later ∙ (ap (λ ys. map told ls ++ ys) here ∙ so_far))
-
-  -- and which trial it tells of
-  pub trials_said : trials_read (given (told x)) ≡ trials_of (entry_of (first_line rest) ∷ []) → trials_read (flat_map given (map told ls)) ++ trials_of (entries_of rest) ≡ trials_of (entries_of text) → trials_read (flat_map given (map told (ls ++ x ∷ []))) ++ trials_of (entries_of (after_line rest)) ≡ trials_of (entries_of text)
-  trials_said said so_far =
-      let before = flat_map given (map told ls) in
-      let later = trials_of (entries_of (after_line rest)) in
-      let entry = entry_of (first_line rest) in
-      let more : flat_map given (map told (ls ++ x ∷ [])) ≡ before ++ given (told x) = ap (flat_map given) (map-append told ls (x ∷ [])) ∙ sym (flat_map_more given [] (map told ls) (told x)) in
-      let here : trials_of (entry ∷ []) ++ later ≡ trials_of (entries_of rest) = one_more [] (entry ∷ entries_of (after_line rest)) 0 entry (omega arith) refl ∙ ap trials_of (sym (said_more rest some)) in
-      ap (λ xs. trials_read xs ++ later) more ∙ (ap (λ ts. ts ++ later) (trials_more before (given (told x)) ∙ ap (λ ts. trials_read before ++ ts) said) ∙ (append_assoc (trials_read before) (trials_of (entry ∷ [])) later ∙ (ap (λ ts. trials_read before ++ ts) here ∙ so_far)))
+-- the trials of what is told of lines are those of their entries, where it is so of each line
+pub same_trials : (rs : List (Result Line Unsaid)) (ls : List (List ℕ)) → map (λ r. trials_read (given (told r))) rs ≡ map (λ l. trials_of (entry_of l ∷ [])) ls → trials_read (flat_map given (map told rs)) ≡ trials_of (map entry_of ls)
+same_trials [] [] e = refl
+same_trials [] (l ∷ ls) e = cc
+same_trials (r ∷ rs) [] e = cc
+same_trials (r ∷ rs) (l ∷ ls) e =
+    let here : trials_read (given (told r)) ≡ trials_of (entry_of l ∷ []) = cc in
+    let later : map (λ r. trials_read (given (told r))) rs ≡ map (λ l. trials_of (entry_of l ∷ [])) ls = cc in
+    trials_more (given (told r)) (flat_map given (map told rs))
+    ∙ (ap (λ ts. ts ++ trials_read (flat_map given (map told rs))) here
+    ∙ (ap (λ ts. trials_of (entry_of l ∷ []) ++ ts) (same_trials rs ls later) ∙ sym (all_trials (entry_of l) (map entry_of ls))))

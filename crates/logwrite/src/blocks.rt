@@ -34,6 +34,7 @@ pub(crate) fn write_blocks(
 {
     let mut blocks = Vec::new(heap);
     let mut number = 0u32;
+    // a place and no slice of what is left: a slice of borrowed records that a loop cuts gets no proof
     let mut place = 0;
     while place < records.len() {
         let (block, count) = next_block(number, &records[place..]);

@@ -3,7 +3,7 @@
 #![tactic(auto)]
 
 mod blocks;
-mod lines;
+mod reading;
 mod records;
 mod saying;
 mod writing;

@@ -1,5 +1,5 @@
 // The records that lines give.
-ghost use Rattle.std.specs.Prelude.{◌≡◌, ◌++◌, map, IfOk, OnOk};
+ghost use Rattle.std.specs.Prelude.{◌≡◌, map, IfOk};
 ghost use Rattle.std.specs.List.{flat_map};
 ghost use Rattle.log_block.specs.Reading.{seen};
 ghost use Rattle.logwrite.specs.Lines.{given, line_item, told};
@@ -21,19 +21,6 @@ fn record_of<'l>(line: &'l Line<'_>) -> Record<'l>
     }
 }
 
-// Adds the record of a line, if it gives one.
-fn add<'l>(
-    records: &mut Vec<Record<'l>>,
-    line: &'l Result<Line<'_>, Unsaid>,
-) -> Result<(), AllocError>
-    ensures { OnOk result (map seen records.new.items ≡ map seen records.old.items ++ given (told line.now)) }
-{
-    if let Ok(said) = line {
-        records.push(record_of(said))?;
-    }
-    Ok(())
-}
-
 // The records of the lines that give one, in their order.
 pub(crate) fn records_of<'l>(
     heap: Global,
@@ -42,8 +29,11 @@ pub(crate) fn records_of<'l>(
     ensures { IfOk result (λ v. map seen v.items ≡ flat_map given (map told lines.now)) }
 {
     let mut records = Vec::new(heap);
+    // a loop and no chain: a record lends parts of its line, which no chain's contract names
     for line in lines {
-        add(&mut records, line)?;
+        if let Ok(said) = line {
+            records.push(record_of(said))?;
+        }
     }
     Ok(records)
 }

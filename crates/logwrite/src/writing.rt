@@ -7,10 +7,9 @@ ghost use Rattle.logwrite.specs.Lines.{given, told};
 ghost use Rattle.logwrite.specs.Log.{LogOf};
 
 use crate::blocks::write_blocks;
-use crate::lines::read_lines;
+use crate::reading::Reader;
 use crate::records::records_of;
 use crate::saying::{Line, Unsaid};
-use logger::logger_space;
 use std::alloc::{AllocError, Global};
 
 // What each line of a text gives, and the blocks of the records among that.
@@ -37,7 +36,7 @@ fn blocks_of_lines(
 pub(crate) fn write_log(heap: Global, text: &[u8]) -> Result<Log<'_>, AllocError>
     ensures { IfOk result (λ log. LogOf text.now log) }
 {
-    let lines = read_lines(heap, &logger_space(), text)?;
+    let lines = Reader::new().read_lines(heap, text)?;
     let blocks = blocks_of_lines(heap, lines.as_slice())?;
     Ok(Log { lines, blocks })
 }
