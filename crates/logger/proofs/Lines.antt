@@ -1,8 +1,6 @@
 -- The trials of a text, line by line.
-use Rattle.std.proofs.Common.{◌≡◌, ℕ, ◌+◌, ◌<◌, List, [], ◌∷◌, ◌++◌, length, get_or, drop, ℤ, Ok, Err, Result, refl, sym, ap, ◌∙◌}
+use Rattle.std.proofs.Common.{◌≡◌, List, [], ◌∷◌, ◌++◌, Ok, Err, Result, refl, ap}
 use Rattle.std.specs.List.{filter_map}
-use Rattle.std.proofs.lemmas.List.{append_assoc, at_drop_more}
-use Rattle.space.specs.declared.tagged.Trial.{Trial}
 use Rattle.entry.specs.declared.outcome.Entry.{Entry}
 use Rattle.entry.specs.declared.outcome.Malformed.{Malformed}
 use Rattle.logger.specs.Logger.{trial_of, trial_of_line, trials_of}

@@ -30,10 +30,7 @@ fn delays() -> StepSpace
         high: LONGEST,
         step: 500,
     };
-    match StepSpace::new(&[delay]) {
-        Ok(delays) => delays,
-        Err(_) => unreachable!(),
-    }
+    StepSpace::new(&[delay]).unwrap()
 }
 
 // Lives, in boxes that grow by half.
@@ -45,10 +42,7 @@ fn lives() -> RatioSpace
         per_cent: 50,
         ceiling: HIGHEST,
     };
-    match RatioSpace::new(&[life]) {
-        Ok(lives) => lives,
-        Err(_) => unreachable!(),
-    }
+    RatioSpace::new(&[life]).unwrap()
 }
 
 // The space: the delays beside the lives.
@@ -56,8 +50,5 @@ pub fn logger_space() -> LoggerSpace
     ensures meaning { meaning_of step_meaning ratio_meaning result ≡ logger }
     ensures bytes { recording_of step_meaning ratio_meaning step_recording ratio_recording result ≡ logger_bytes }
 {
-    match Beside::new(delays(), lives()) {
-        Ok(space) => space,
-        Err(_) => unreachable!(),
-    }
+    Beside::new(delays(), lives()).unwrap()
 }

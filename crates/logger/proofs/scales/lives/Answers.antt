@@ -1,7 +1,5 @@
-use Rattle.std.proofs.Common.{sym, ◌∙◌}
-use Rattle.std.proofs.lemmas.Option.{none-some}
-use Rattle.logger.proofs.Extents.{lives_sound}
+use Rattle.logger.proofs.Extents.{lives_sound, not_refused}
 use Rattle.logger.proofs.scales.lives.Goals as goal
 
-pub unreachable-requires : goal.unreachable-requires
-unreachable-requires c = none-some c.in-Err.field-0 (sym lives_sound ∙ c.in-Err.ensures)
+pub unwrap-requires : goal.unwrap-requires
+unwrap-requires c = not_refused c.new.result _ _ lives_sound c.new.ensures
