@@ -3,12 +3,28 @@ use entry::{Entry, Malformed};
 use logger::{HIGHEST, LONGEST, LoggerSpace, Point, trial_of};
 use space::{Space, Trial};
 use standing::{opens_box, same_box, trial_stands};
+use std::fmt;
 
-// How the lines of a log fared.
+// A trial's figures and its boxes.
 #[derive(Clone, Copy)]
-pub(crate) struct Refusals {
-    pub malformed: usize,
-    pub off_grid: usize,
+pub(crate) struct Figures<'a> {
+    pub space: &'a LoggerSpace,
+    pub trial: &'a Trial<Point>,
+}
+
+impl fmt::Display for Figures<'_> {
+    fn fmt<W: fmt::Write>(&self, f: &mut fmt::Formatter<W>) -> fmt::Result {
+        let point = &self.trial.point;
+        write!(
+            f,
+            "tag {} delay {} life {} box {} {}",
+            self.trial.tag,
+            point.0[0],
+            point.1[0],
+            self.space.box_number(0, point),
+            self.space.box_number(1, point)
+        )
+    }
 }
 
 // What the space is.
@@ -26,28 +42,18 @@ pub(crate) fn print_refusals(
     rt: &HostRuntime,
     space: &LoggerSpace,
     lines: &[Result<Entry, Malformed>],
-) -> anyhow::Result<Refusals> {
-    let mut malformed = 0usize;
-    let mut off_grid = 0usize;
+) -> anyhow::Result<()> {
     for (i, line) in lines.iter().enumerate() {
         let number = i.saturating_add(1);
         match line {
-            Err(fault) => {
-                println!(rt; "line {number} malformed: {fault}")?;
-                malformed = malformed.saturating_add(1);
+            Err(fault) => println!(rt; "line {number} malformed: {fault}")?,
+            Ok(entry) if !space.admits(&trial_of(entry).point) => {
+                print_off_grid(rt, number, entry)?
             }
-            Ok(entry) => {
-                if !space.admits(&trial_of(entry).point) {
-                    print_off_grid(rt, number, entry)?;
-                    off_grid = off_grid.saturating_add(1);
-                }
-            }
+            Ok(_) => {}
         }
     }
-    Ok(Refusals {
-        malformed,
-        off_grid,
-    })
+    Ok(())
 }
 
 // Which figure of the entry is off the grid.
@@ -66,7 +72,8 @@ fn print_off_grid(rt: &HostRuntime, number: usize, entry: &Entry) -> anyhow::Res
     Ok(())
 }
 
-// Each trial on the grid, with its figures and its boxes, and whether another dominates it. Says how many stand.
+// Each trial on the grid, with its figures and its boxes, and whether another dominates it. Says how many stand: they are
+// counted as they are printed, since to ask of each again would go over all pairs again.
 pub(crate) fn print_trials(
     rt: &HostRuntime,
     space: &LoggerSpace,
@@ -75,17 +82,12 @@ pub(crate) fn print_trials(
     let mut standing = 0usize;
     for (i, trial) in trials.iter().enumerate() {
         if space.admits(&trial.point) {
-            let tag = trial.tag;
-            let delay = trial.point.0[0];
-            let life = trial.point.1[0];
-            let delay_box = space.box_number(0, &trial.point);
-            let life_box = space.box_number(1, &trial.point);
-            print!(rt; "tag {tag} delay {delay} life {life} box {delay_box} {life_box}")?;
+            let figures = Figures { space, trial };
             if trial_stands(space, trials, i) {
-                println!(rt; ", not dominated")?;
+                println!(rt; "{figures}, not dominated")?;
                 standing = standing.saturating_add(1);
             } else {
-                println!(rt; ", dominated")?;
+                println!(rt; "{figures}, dominated")?;
             }
         }
     }
@@ -118,11 +120,11 @@ fn print_tags_in(
     trials: &[Trial<Point>],
     point: &Point,
 ) -> anyhow::Result<()> {
-    for trial in trials {
-        if space.admits(&trial.point) && same_box(space, &trial.point, point) {
-            let tag = trial.tag;
-            print!(rt; " tag {tag}")?;
-        }
+    for trial in trials.iter().filter(|trial| space.admits(&trial.point)
+        && same_box(space, &trial.point, point))
+    {
+        let tag = trial.tag;
+        print!(rt; " tag {tag}")?;
     }
     println!(rt; "")?;
     Ok(())

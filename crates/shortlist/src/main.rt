@@ -12,6 +12,7 @@ use anyhow::anyhow;
 use entry::read_entries;
 use logger::{logger_space, trials_of};
 use offers::offer_all;
+use space::Space;
 use std::io::Read;
 use verdicts::{hold_what_stands, print_offers, print_rows};
 
@@ -27,14 +28,17 @@ fn run(rt: &HostRuntime) -> anyhow::Result<()> {
     let trials = trials_of(rt.alloc(), lines.as_slice())?;
 
     print_space(rt, &space)?;
-    let refusals = print_refusals(rt, &space, lines.as_slice())?;
+    print_refusals(rt, &space, lines.as_slice())?;
     let not_dominated = print_trials(rt, &space, trials.as_slice())?;
     let boxes = print_boxes(rt, &space, trials.as_slice())?;
 
     let read = lines.len();
-    let malformed = refusals.malformed;
-    let off_grid = refusals.off_grid;
-    let judged = trials.len().saturating_sub(off_grid);
+    let malformed = lines.iter().filter(|line| line.is_err()).count();
+    let judged = trials
+        .iter()
+        .filter(|trial| space.admits(&trial.point))
+        .count();
+    let off_grid = trials.len().saturating_sub(judged);
     println!(rt;
         "lines {read} malformed {malformed} refused {off_grid} trials {judged} not dominated {not_dominated} boxes {boxes}"
     )?;
@@ -42,7 +46,7 @@ fn run(rt: &HostRuntime) -> anyhow::Result<()> {
     let offers = offer_all(rt.alloc(), trials.as_slice())?;
     print_offers(rt, offers.turns.as_slice())?;
     print_rows(rt, &space, offers.members.as_slice())?;
-    if !hold_what_stands(&space, trials.as_slice(), offers.members.as_slice()) {
+    if !hold_what_stands(&space, trials.as_slice(), offers.members.as_slice(), boxes) {
         return Err(anyhow!("the boxes held are not those that stand"));
     }
     println!(rt; "the boxes held are those that stand")?;

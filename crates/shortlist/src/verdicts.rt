@@ -1,12 +1,14 @@
 // What an archive made of the trials: the verdict on each, the rows at the end, and whether they hold the boxes that stand.
+use crate::account::Figures;
 use history::{Answer, Offered, Verdict};
 use logger::{LoggerSpace, Point};
 use replay::{Ask, Turn};
 use space::{Space, Trial};
 use standing::{box_stands, opens_box, same_box};
+use std::fmt;
 
 // How many offers had each verdict, how many were denied, and how many members went.
-#[derive(Clone, Copy)]
+#[derive(Clone, Copy, Default)]
 struct Sums {
     passed_over: usize,
     entered: usize,
@@ -26,6 +28,21 @@ impl Sums {
             Verdict::Replaced => self.replacing = self.replacing.saturating_add(1),
         }
         self.displaced = self.displaced.saturating_add(offered.displaced);
+    }
+}
+
+impl fmt::Display for Sums {
+    fn fmt<W: fmt::Write>(&self, f: &mut fmt::Formatter<W>) -> fmt::Result {
+        write!(
+            f,
+            "verdict 0 {} verdict 1 {} verdict 2 {} verdict 3 {} denied {} displaced {}",
+            self.passed_over,
+            self.entered,
+            self.displacing,
+            self.replacing,
+            self.denied,
+            self.displaced
+        )
     }
 }
 
@@ -54,27 +71,12 @@ fn print_offer(rt: &HostRuntime, turn: &Turn<Ask<Point>>, sums: &mut Sums) -> an
 
 // The offers one by one, and then what they add up to.
 pub(crate) fn print_offers(rt: &HostRuntime, turns: &[Turn<Ask<Point>>]) -> anyhow::Result<()> {
-    let mut sums = Sums {
-        passed_over: 0,
-        entered: 0,
-        displacing: 0,
-        replacing: 0,
-        denied: 0,
-        displaced: 0,
-    };
+    let mut sums = Sums::default();
     for turn in turns {
         print_offer(rt, turn, &mut sums)?;
     }
     let made = turns.len();
-    let passed_over = sums.passed_over;
-    let entered = sums.entered;
-    let displacing = sums.displacing;
-    let replacing = sums.replacing;
-    let denied = sums.denied;
-    let displaced = sums.displaced;
-    println!(rt;
-        "offers {made} verdict 0 {passed_over} verdict 1 {entered} verdict 2 {displacing} verdict 3 {replacing} denied {denied} displaced {displaced}"
-    )?;
+    println!(rt; "offers {made} {sums}")?;
     Ok(())
 }
 
@@ -84,13 +86,9 @@ pub(crate) fn print_rows(
     space: &LoggerSpace,
     members: &[Trial<Point>],
 ) -> anyhow::Result<()> {
-    for (row, member) in members.iter().enumerate() {
-        let tag = member.tag;
-        let delay = member.point.0[0];
-        let life = member.point.1[0];
-        let delay_box = space.box_number(0, &member.point);
-        let life_box = space.box_number(1, &member.point);
-        println!(rt; "row {row} tag {tag} delay {delay} life {life} box {delay_box} {life_box}")?;
+    for (row, trial) in members.iter().enumerate() {
+        let figures = Figures { space, trial };
+        println!(rt; "row {row} {figures}")?;
     }
     let count = members.len();
     println!(rt; "members {count}")?;
@@ -106,33 +104,22 @@ fn holds(space: &LoggerSpace, members: &[Trial<Point>], point: &Point) -> bool {
 
 // Whether the box of this point stands among the trials.
 fn stands(space: &LoggerSpace, trials: &[Trial<Point>], point: &Point) -> bool {
-    for (i, trial) in trials.iter().enumerate() {
-        if box_stands(space, trials, i) && same_box(space, &trial.point, point) {
-            return true;
-        }
-    }
-    false
+    trials.iter().enumerate().any(|(i, trial)| box_stands(space, trials, i)
+        && same_box(space, &trial.point, point))
 }
 
-// Whether the members hold exactly the boxes that stand: each of these, no other, and none twice.
+// Whether the members hold exactly the boxes that stand, of which there are so many: each of these, no other, and none twice.
 pub(crate) fn hold_what_stands(
     space: &LoggerSpace,
     trials: &[Trial<Point>],
     members: &[Trial<Point>],
+    boxes: usize,
 ) -> bool {
-    let mut standing = 0usize;
-    for (i, trial) in trials.iter().enumerate() {
-        if opens_box(space, trials, i) {
-            standing = standing.saturating_add(1);
-            if !holds(space, members, &trial.point) {
-                return false;
-            }
-        }
-    }
-    for member in members {
-        if !stands(space, trials, &member.point) {
-            return false;
-        }
-    }
-    standing == members.len()
+    boxes == members.len()
+        && trials.iter().enumerate().all(|(i, trial)| {
+            !opens_box(space, trials, i) || holds(space, members, &trial.point)
+        })
+        && members
+            .iter()
+            .all(|member| stands(space, trials, &member.point))
 }
