@@ -28,10 +28,7 @@ pub(crate) fn begin(rows: &[Trial<Point>]) -> Archive<LoggerSpace>
     requires { length rows.now ≡ 32 }
     ensures { StandsUnder (begun 32) result rows.now }
 {
-    match Archive::new(logger_space(), rows) {
-        Ok(archive) => archive,
-        Err(_) => unreachable!(),
-    }
+    Archive::new(logger_space(), rows).unwrap()
 }
 
 // Feeds a block to the archive over its rows.

@@ -5,7 +5,8 @@ ghost use Rattle.front.specs.Lines.{line_of};
 use history::{Fed, FeedFault};
 use std::fmt;
 
-// What a line says: how the block's trials fared, or the number of the fault that it is refused for.
+// What a line says: how the block's trials fared, or the number of the fault that it is refused for. A type of its own and no
+// `Result` of a feed's answer: so the contract says which of the answer's counts the line tells.
 #[derive(Clone, Copy)]
 pub(crate) enum BlockLine {
     Fed {

@@ -31,6 +31,7 @@ fn run(rt: &HostRuntime) -> anyhow::Result<()> {
     let mut piece = vec![in rt.alloc(); 0u8; PIECE]?;
     let mut input = rt.stdin();
     let mut out = BufWriter::new(rt.alloc(), io::writer(rt))?;
+    // counted by hand: the number goes on from piece to piece
     let mut number = 0u64;
     writeln!(out, "front 1")?;
     for _ in 0..u64::MAX {
@@ -52,10 +53,8 @@ fn run(rt: &HostRuntime) -> anyhow::Result<()> {
 // Each member in row order, and how many there are.
 fn print_members<W: Write>(out: &mut W, members: &[Trial<Point>]) -> anyhow::Result<()> {
     for (row, member) in members.iter().enumerate() {
-        let tag = member.tag;
-        writeln!(out, "row {row} tag {tag}")?;
+        writeln!(out, "row {row} tag {}", member.tag)?;
     }
-    let count = members.len();
-    writeln!(out, "members {count}")?;
+    writeln!(out, "members {}", members.len())?;
     Ok(())
 }
