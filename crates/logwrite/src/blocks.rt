@@ -17,10 +17,8 @@ fn next_block(number: u32, records: &[Record<'_>]) -> ([u8; 512], usize)
     ensures count { result.1 ≡ length (fitting_items 2 (map seen records.now)) }
 {
     let mut block = [0; 512];
-    match log_block::write_records(&mut block, 2, number, records) {
-        Ok(count) => (block, count),
-        Err(_) => unreachable!(),
-    }
+    let count = log_block::write_records(&mut block, 2, number, records).unwrap();
+    (block, count)
 }
 
 // The blocks of a log of these records, each of which a block may hold.
