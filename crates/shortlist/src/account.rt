@@ -1,31 +1,9 @@
 // The account that is printed: what was refused and why, where each trial lies, which boxes stand, and the totals.
+use crate::figures::Figures;
 use entry::{Entry, Malformed};
 use logger::{HIGHEST, LONGEST, LoggerSpace, Point, trial_of};
 use space::{Space, Trial};
 use standing::{opens_box, same_box, trial_stands};
-use std::fmt;
-
-// A trial's figures and its boxes.
-#[derive(Clone, Copy)]
-pub(crate) struct Figures<'a> {
-    pub space: &'a LoggerSpace,
-    pub trial: &'a Trial<Point>,
-}
-
-impl fmt::Display for Figures<'_> {
-    fn fmt<W: fmt::Write>(&self, f: &mut fmt::Formatter<W>) -> fmt::Result {
-        let point = &self.trial.point;
-        write!(
-            f,
-            "tag {} delay {} life {} box {} {}",
-            self.trial.tag,
-            point.0[0],
-            point.1[0],
-            self.space.box_number(0, point),
-            self.space.box_number(1, point)
-        )
-    }
-}
 
 // What the space is.
 pub(crate) fn print_space(rt: &HostRuntime, space: &LoggerSpace) -> anyhow::Result<()> {
@@ -62,10 +40,10 @@ fn print_off_grid(rt: &HostRuntime, number: usize, entry: &Entry) -> anyhow::Res
     let delay = entry.delay;
     let life = entry.life;
     print!(rt; "line {number} refused 5, off the grid: tag {tag}")?;
-    if delay < 0 || delay > LONGEST {
+    if !(0..=LONGEST).contains(&delay) {
         print!(rt; ", delay {delay} is not from 0 to {LONGEST}")?;
     }
-    if life < 1 || life > HIGHEST {
+    if !(1..=HIGHEST).contains(&life) {
         print!(rt; ", life {life} is not from 1 to {HIGHEST}")?;
     }
     println!(rt; "")?;

@@ -4,6 +4,7 @@
 #![tactic(auto)]
 
 mod account;
+mod figures;
 mod offers;
 mod verdicts;
 

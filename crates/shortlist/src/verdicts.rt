@@ -1,9 +1,9 @@
 // What an archive made of the trials: the verdict on each, the rows at the end, and whether they hold the boxes that stand.
-use crate::account::Figures;
+use crate::figures::Figures;
 use history::{Answer, Offered, Verdict};
 use logger::{LoggerSpace, Point};
 use replay::{Ask, Turn};
-use space::{Space, Trial};
+use space::Trial;
 use standing::{box_stands, opens_box, same_box};
 use std::fmt;
 
