@@ -1,5 +1,5 @@
 // The lines of a text, and what each says.
-ghost use Rattle.std.specs.Prelude.{◌≡◌, IfOk};
+ghost use Rattle.std.specs.Prelude.{◌≡◌, ℕ, ◌<◌, ◌≤◌, [], ◌∷◌, length, IfOk, MatchOption, ◌≢◌, slice_index};
 ghost use Rattle.entry.specs.Text.{after_line, entries_of, first_line, lines};
 ghost use Rattle.entry.specs.Lines.{lines_left};
 
@@ -7,14 +7,24 @@ use crate::outcome::{Entry, Malformed};
 use crate::reading::read_entry;
 use std::alloc::{AllocError, Global};
 
+// How many bytes there are before the first newline.
+fn line_len(text: &[u8]) -> usize
+    ensures within { result ≤ length text.now }
+    ensures before { (k : ℕ) → k < result → slice_index text.now k ≢ 10 }
+    ensures found { result < length text.now → slice_index text.now result ≡ 10 }
+{
+    text.iter().take_while(|byte| **byte != b'\n').count()
+}
+
 // The first line and what follows its newline; nothing follows where there is none.
 pub fn next_line(text: &[u8]) -> (&[u8], &[u8])
     ensures line { result.0.now ≡ first_line text.now }
     ensures rest { result.1.now ≡ after_line text.now }
 {
-    match text.iter().position(|byte| *byte == b'\n') {
-        Some(end) => (&text[..end], &text[end + 1..]),
-        None => (text, &[]),
+    let (line, rest) = text.split_at(line_len(text));
+    match rest {
+        [_, after @ ..] => (line, after),
+        [] => (line, rest),
     }
 }
 
@@ -31,6 +41,21 @@ pub fn lines(text: &[u8]) -> TextLines<'_>
     TextLines { rest: text }
 }
 
+impl<'a> TextLines<'a> {
+    ghost use Rattle.entry.specs.Lines.{lines_left};
+
+    // The next line, and the reader past it.
+    fn split(&self) -> Option<(&'a [u8], TextLines<'a>)>
+        ensures { MatchOption result (lines_left self.now ≡ []) (λ p. lines_left self.now ≡ p.0.now ∷ lines_left p.1) }
+    {
+        if self.rest.is_empty() {
+            return None;
+        }
+        let (line, rest) = next_line(self.rest);
+        Some((line, TextLines { rest }))
+    }
+}
+
 impl<'a> Iterator for TextLines<'a> {
     ghost use Rattle.std.specs.Iterator.{item_count, YieldsFirstRef};
     ghost use Rattle.entry.specs.Lines.{lines_left};
@@ -42,11 +67,8 @@ impl<'a> Iterator for TextLines<'a> {
     ghost remaining = { item_count lines_left };
 
     fn next(&mut self) -> Option<&'a [u8]> {
-        if self.rest.is_empty() {
-            return None;
-        }
-        let (line, rest) = next_line(self.rest);
-        self.rest = rest;
+        let (line, after) = self.split()?;
+        *self = after;
         Some(line)
     }
 }
