@@ -1,5 +1,5 @@
 // The check of a block: the first fault in a fixed order, or the block's records.
-ghost use Rattle.std.specs.Prelude.{◌≡◌, Ok, Err, MatchResult};
+ghost use Rattle.std.specs.Prelude.{◌≡◌, ℕ, ◌<◌, ◌≤◌, length, Ok, Err, MatchResult, ◌≢◌, slice_index};
 ghost use Rattle.log_block.specs.Block.{checked, header_check, records_check, tail_check};
 ghost use Rattle.log_block.specs.Reading.{left_to_read};
 
@@ -27,14 +27,24 @@ fn check_header(block: &Block, objectives: u8) -> Result<(), BlockFault>
     Ok(())
 }
 
+// How many zeros there are in front.
+fn zeros(bytes: &[u8]) -> usize
+    ensures within { result ≤ length bytes.now }
+    ensures before { (k : ℕ) → k < result → slice_index bytes.now k ≡ 0 }
+    ensures found { result < length bytes.now → slice_index bytes.now result ≢ 0 }
+{
+    bytes.iter().take_while(|byte| **byte == 0).count()
+}
+
 // The bytes after the last record are zero.
 fn check_tail(rest: &[u8]) -> Result<(), RecordFault>
     ensures { result ≡ tail_check rest.now }
 {
-    match rest.iter().position(|byte| *byte != 0) {
-        Some(at) => Err(RecordFault::Tail(place(&rest[at..]))),
-        None => Ok(()),
+    let (_, odd) = rest.split_at(zeros(rest));
+    if !odd.is_empty() {
+        return Err(RecordFault::Tail(place(odd)));
     }
+    Ok(())
 }
 
 // The records that are left, and then the tail.

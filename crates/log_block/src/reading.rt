@@ -1,7 +1,7 @@
 // Taking the records of a block apart, from the bytes that are left of it up to byte 507.
-ghost use Rattle.std.specs.Prelude.{◌≡◌};
+ghost use Rattle.std.specs.Prelude.{◌≡◌, [], ◌∷◌, MatchOption};
 ghost use Rattle.log_block.specs.Items.{first_item, item_of, place_of};
-ghost use Rattle.log_block.specs.Reading.{seen_both, seen_record};
+ghost use Rattle.log_block.specs.Reading.{left_to_read, seen_at, seen_both, seen_record};
 
 use crate::faults::RecordFault;
 use crate::parts::{NOTE, Placed, Record, TRIAL};
@@ -65,6 +65,23 @@ pub(crate) fn first_record(rest: &[u8], objectives: u8) -> Result<(Record<'_>, &
     Ok((record, after))
 }
 
+impl<'a> Records<'a> {
+    // The next record with its place, and the reader past it.
+    fn split(&self) -> Option<(Placed<'a>, Records<'a>)>
+        ensures { MatchOption result (left_to_read self.now ≡ []) (λ p. left_to_read self.now ≡ seen_at p.0 ∷ left_to_read p.1) }
+    {
+        let count = self.count.checked_sub(1)?;
+        let (record, rest) = first_record(self.rest, self.objectives).ok()?;
+        let place = place(self.rest);
+        let after = Records {
+            rest,
+            count,
+            objectives: self.objectives,
+        };
+        Some((Placed { place, record }, after))
+    }
+}
+
 impl<'a> Iterator for Records<'a> {
     ghost use Rattle.std.specs.Iterator.{item_count, YieldsFirstBy};
     ghost use Rattle.log_block.specs.Reading.{left_to_read, seen_at};
@@ -77,14 +94,8 @@ impl<'a> Iterator for Records<'a> {
 
     // The next record with its place, or none after the last.
     fn next(&mut self) -> Option<Placed<'a>> {
-        let count = self.count.checked_sub(1)?;
-        let (record, rest) = first_record(self.rest, self.objectives).ok()?;
-        let place = place(self.rest);
-        *self = Records {
-            rest,
-            count,
-            objectives: self.objectives,
-        };
-        Some(Placed { place, record })
+        let (placed, after) = self.split()?;
+        *self = after;
+        Some(placed)
     }
 }

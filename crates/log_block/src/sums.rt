@@ -34,6 +34,13 @@ impl Sums {
         sums
     }
 
+    // Writes the sums into the last four bytes.
+    fn seal(self, block: &mut Block)
+        ensures { block.new ≡ take 508 block.old ++ (two_bytes self.low ++ two_bytes self.high) }
+    {
+        block[508..].copy_from_slice(&self.to_bytes());
+    }
+
     // The four bytes that say the sums.
     fn to_bytes(self) -> [u8; 4]
         ensures { result ≡ two_bytes self.low ++ two_bytes self.high }
@@ -59,8 +66,7 @@ pub(crate) fn is_sealed(block: &Block) -> bool
 pub(crate) fn seal_block(block: &mut Block)
     ensures { block.new ≡ with_sums (take 508 block.old) }
 {
-    let sums = Sums::of(&block[..508]);
-    block[508..].copy_from_slice(&sums.to_bytes());
+    Sums::of(&block[..508]).seal(block);
 }
 
 // Writes the sums of the first 508 bytes into the last four: for whoever fills a block with records of their own.

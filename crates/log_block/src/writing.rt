@@ -95,6 +95,7 @@ fn write_block<T: AsRecord>(
 }
 
 // Writes a block with as many of the trials as it has room for, in order, and answers how many these are.
+#[tactic(auto, using(crate::proofs::Capacity::same_block))]
 pub fn write(
     block: &mut [u8],
     objectives: u8,
