@@ -5,21 +5,21 @@ ghost use Rattle.history.specs.Numbers.{denial_number};
 #[derive(Clone, Copy, PartialEq, Eq, Debug)]
 pub enum Denial {
     // a making over 0 rows
-    NoRows,
+    NoRows = 1,
     // a making over more than 4,096 rows
-    Overlong,
+    Overlong = 2,
     // another number of rows is lent than at the making
-    StrangeRows,
+    StrangeRows = 3,
     // the list is shorter than the rows, or where tags are listed than the count
-    ShortList,
+    ShortList = 4,
     // the trial's point is not admitted
-    OffGrid,
+    OffGrid = 5,
     // the trial would enter, and every row holds a member
-    Full,
+    Full = 6,
     // the lent block is not 512 bytes long
-    WrongLength,
+    WrongLength = 9,
     // the members do not reach to a block of this number
-    NoSuchBlock,
+    NoSuchBlock = 14,
 }
 
 impl Denial {
@@ -27,15 +27,6 @@ impl Denial {
     pub fn number(&self) -> u8
         ensures { result ≡ denial_number self.now }
     {
-        match self {
-            Denial::NoRows => 1,
-            Denial::Overlong => 2,
-            Denial::StrangeRows => 3,
-            Denial::ShortList => 4,
-            Denial::OffGrid => 5,
-            Denial::Full => 6,
-            Denial::WrongLength => 9,
-            Denial::NoSuchBlock => 14,
-        }
+        *self as u8
     }
 }

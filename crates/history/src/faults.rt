@@ -2,6 +2,7 @@
 ghost use Rattle.std.specs.Prelude.{◌≡◌};
 ghost use Rattle.history.specs.Reports.{denied_report, feed_report, from_log};
 
+use crate::denials::Denial;
 use log_block::{BlockFault, Fault, RecordFault, Report};
 
 // What a feed is refused for. Faults of the block and of its records are carried whole.
@@ -29,7 +30,7 @@ impl FeedFault {
     {
         match self {
             FeedFault::StrangeRows => Report {
-                number: 3,
+                number: Denial::StrangeRows.number(),
                 layer: 3,
                 place: 0,
             },
@@ -44,12 +45,12 @@ impl DeniedTrial {
     pub fn report(&self) -> Report
         ensures { result ≡ denied_report self.now }
     {
-        let (number, place) = match self {
-            DeniedTrial::OffGrid(place) => (5, *place),
-            DeniedTrial::Full(place) => (6, *place),
+        let (denial, place) = match self {
+            DeniedTrial::OffGrid(place) => (Denial::OffGrid, *place),
+            DeniedTrial::Full(place) => (Denial::Full, *place),
         };
         Report {
-            number,
+            number: denial.number(),
             layer: 3,
             place,
         }

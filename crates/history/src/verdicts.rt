@@ -5,13 +5,13 @@ ghost use Rattle.history.specs.Numbers.{verdict_number};
 #[derive(Clone, Copy, PartialEq, Eq, Debug)]
 pub enum Verdict {
     // a member's box shuts it out
-    PassedOver,
+    PassedOver = 0,
     // it took a free row
-    Entered,
+    Entered = 1,
     // it entered, and every member went whose box its box dominates
-    Displaced,
+    Displaced = 2,
     // it entered, and a member of its own box went that it dominates
-    Replaced,
+    Replaced = 3,
 }
 
 impl Verdict {
@@ -19,11 +19,6 @@ impl Verdict {
     pub fn number(&self) -> u8
         ensures { result ≡ verdict_number self.now }
     {
-        match self {
-            Verdict::PassedOver => 0,
-            Verdict::Entered => 1,
-            Verdict::Displaced => 2,
-            Verdict::Replaced => 3,
-        }
+        *self as u8
     }
 }
