@@ -18,7 +18,7 @@ use Rattle.history.specs.Answers.{told_feed}
 use Rattle.history.specs.Calls.{Event, answers, begun, ◌▸◌}
 use Rattle.history.specs.Calls.Call.{feed}
 use Rattle.history.specs.Checks.{making_denial}
-use Rattle.history.specs.Feeding.{all_entered}
+use Rattle.history.specs.Feeding.{all_entered, capped, capped_fed, sum_fed}
 use Rattle.history.specs.RoundTrip.{RecordedLaws}
 use Rattle.history.specs.Saving.{block_count, in_block, per_block, saved_blocks}
 use Rattle.history.specs.Stands.{Stands}
@@ -31,34 +31,11 @@ use Rattle.archive.specs.Feeding.{FeedRight}
 use Rattle.archive.specs.Lent.{Lent}
 use Rattle.archive.specs.Restoring.{BringsBack, FedAll, RestoreRight, all_fed, fed_of, first_at_fault, restore_fault}
 use Rattle.archive.specs.Standing.{Begins}
-use Rattle.archive.specs.Summing.{capped, capped_fed, sum_fed}
 use Rattle.archive.proofs.Taking.{capped_same, fed_same, none_sum, sum_assoc, sum_none}
 
 -- the bytes of blocks that are lent
 abbrev pub bytes_of : List (Bor (List ℕ)) → List (List ℕ)
 bytes_of blocks = map (λ b. b.now) blocks
-
--- one block more of those that are lent
-pub bytes_more : (blocks : List (Bor (List ℕ))) (i : ℕ) → i < length blocks → bytes_of (take (i + 1) blocks) ≡ bytes_of (take i blocks) ++ (get_or (bytes_of blocks) i [] ∷ [])
-bytes_more blocks i inside =
-    let d : Bor (List ℕ) = record { ref_ptr = (0, 0); now = [] } in
-    map_more (λ b. b.now) blocks i d inside ∙ ap (λ x. bytes_of (take i blocks) ++ (x ∷ [])) (sym (get_or-map (λ b. b.now) blocks i d [] inside))
-
-module _ (m : ℕ) (blocks : List (Bor (List ℕ))) (i : ℕ) (b : Bor (List ℕ)) (inside : i < length blocks) (read : b ≡ get_or blocks i b) where
-  -- from this block on
-  from_here : first_at_fault m i (bytes_of (drop i blocks)) ≡ first_at_fault m i (b.now ∷ bytes_of (drop (i + 1) blocks))
-  from_here = ap (λ l. first_at_fault m i (bytes_of l)) (drop_more blocks i b inside ∙ ap (λ x. x ∷ drop (i + 1) blocks) (sym read))
-
-  abbrev told_by : Result (List ItemAt) Fault → Option RestoreFault
-  told_by r = elim r [ Ok found ↦ first_at_fault m (i + 1) (bytes_of (drop (i + 1) blocks)) | Err f ↦ Some (Block i f) ]
-
-  -- nothing is wrong with it
-  pub fault_later : (found : List ItemAt) → checked m b.now ≡ Ok found → first_at_fault m i (bytes_of (drop i blocks)) ≡ first_at_fault m (i + 1) (bytes_of (drop (i + 1) blocks))
-  fault_later found e = from_here ∙ ap told_by e
-
-  -- it is at fault
-  pub fault_here : (f : Fault) → checked m b.now ≡ Err f → first_at_fault m i (bytes_of (drop i blocks)) ≡ Some (Block i f)
-  fault_here f e = from_here ∙ ap told_by e
 
 -- sums that stop at the greatest number
 capped_more : (a b : ℕ) → capped (capped a + b) ≡ capped (a + b)

@@ -10,7 +10,7 @@ use Rattle.history.specs.declared.faults.DeniedTrial.TheVariants.{OffGrid}
 use Rattle.history.specs.declared.verdicts.Verdict.TheVariants.{PassedOver, Entered, Displaced, Replaced}
 use Rattle.history.specs.Answers.{verdict_of}
 use Rattle.history.specs.BlockTrials.{TrialAt, trials_of}
-use Rattle.history.specs.Feeding.{all_entered, then_denied, then_judged, tally}
+use Rattle.history.specs.Feeding.{all_entered, capped, capped_fed, sum_fed, then_denied, then_judged, tally}
 use Rattle.history.specs.State.{entries, members_after, on_grid}
 use Rattle.history.specs.Step.{Outcome, judge, members_then}
 use Rattle.history.specs.Step.Outcome.{judged, full}
@@ -18,7 +18,7 @@ use Rattle.archive.specs.declared.feeding.Taken.{Taken}
 use Rattle.archive.specs.declared.offering.Stepped.{Stepped}
 use Rattle.archive.specs.Feeding.{TriedRight, TakenRight, members_taken, members_tried, trial_answer}
 use Rattle.archive.specs.Offering.{gone_of}
-use Rattle.archive.specs.Summing.{capped, capped_fed, one_fed, sum_fed}
+use Rattle.archive.specs.Summing.{one_fed}
 use Rattle.archive.proofs.Stepped.{few_go}
 
 -- two sums with the same parts

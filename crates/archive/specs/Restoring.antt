@@ -9,7 +9,7 @@ use Rattle.history.specs.declared.answers.Fed as told
 use Rattle.history.specs.Calls.{History, calls, answers}
 use Rattle.history.specs.Calls.Call.{feed}
 use Rattle.history.specs.Checks.{making_denial}
-use Rattle.history.specs.Feeding.{all_entered}
+use Rattle.history.specs.Feeding.{all_entered, capped_fed, sum_fed}
 use Rattle.history.specs.RoundTrip.{Savable}
 use Rattle.history.specs.Saving.{saved_blocks}
 use Rattle.history.specs.Stands.{Stands}
@@ -17,7 +17,6 @@ use Rattle.history.specs.State.{state}
 use Rattle.archive.specs.declared.restoring.RestoreFault.{RestoreFault}
 use Rattle.archive.specs.declared.restoring.RestoreFault.TheVariants as fault
 use Rattle.archive.specs.Lent.{Lent, members}
-use Rattle.archive.specs.Summing.{capped_fed, sum_fed}
 
 -- of these blocks, which are counted from i on, the first that is at fault, with its fault
 abbrev pub first_at_fault : ℕ → ℕ → List (List ℕ) → Option RestoreFault

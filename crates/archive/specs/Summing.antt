@@ -1,6 +1,5 @@
--- What trials came to, added up.
-use Rattle.std.specs.Prelude.{ℕ, ◌+◌, ◌-◌, ◌^◌, min, Some, None, Ok, Err, Result}
-use Rattle.std.specs.Option.{option_or}
+-- What one trial of a block came to.
+use Rattle.std.specs.Prelude.{ℕ, ◌-◌, Some, None, Ok, Err, Result}
 use Rattle.history.specs.declared.answers.Fed.{Fed}
 use Rattle.history.specs.declared.answers.Offered.{Offered}
 use Rattle.history.specs.declared.denials.Denial.{Denial}
@@ -8,30 +7,6 @@ use Rattle.history.specs.declared.denials.Denial.TheVariants as denial
 use Rattle.history.specs.declared.faults.DeniedTrial.{DeniedTrial}
 use Rattle.history.specs.declared.faults.DeniedTrial.TheVariants.{OffGrid, Full}
 use Rattle.history.specs.State.{entries}
-
--- some trials and then others: the first that was denied is the first of the earlier ones, if one of them was
-abbrev pub sum_fed : Fed → Fed → Fed
-sum_fed f g = record {
-  entered = f.entered + g.entered;
-  passed = f.passed + g.passed;
-  denied = f.denied + g.denied;
-  displaced = f.displaced + g.displaced;
-  first = option_or f.first g.first;
-}
-
--- a number, or the greatest of its type
-abbrev pub capped : ℕ → ℕ
-capped n = min n (2 ^ 64 - 1)
-
--- the same of each of the four
-abbrev pub capped_fed : Fed → Fed
-capped_fed f = record {
-  entered = capped f.entered;
-  passed = capped f.passed;
-  denied = capped f.denied;
-  displaced = capped f.displaced;
-  first = f.first;
-}
 
 -- why a trial is denied whose record is at this place: its point is not admitted, or else there is no row for it
 abbrev pub denied_at : ℕ → Denial → DeniedTrial

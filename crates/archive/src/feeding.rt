@@ -8,7 +8,7 @@ ghost use Rattle.archive.specs.Lent.{lending};
 
 use crate::holding::Archive;
 use crate::offering::{Stepped, step};
-use crate::summing::{nothing, one_fed, sum_fed};
+use crate::summing::one_fed;
 use history::{Denial, Fed, FeedFault};
 use log_block::{Placed, Record, Records, check};
 use space::{Recorded, Space, Trial, read_or_blank};
@@ -62,7 +62,7 @@ fn take_record<S: Recorded>(
             }
         }
         Record::Note(_) => Taken {
-            fed: nothing(),
+            fed: Fed::default(),
             count,
         },
     }
@@ -81,13 +81,13 @@ fn take_records<S: Recorded>(
     ensures { TakenRight (S.Space.meaning space.now) (trials_of (read_point (S.Recorded.recording space.now)) (left_to_read records.entry)) count rows.old result rows.new }
 {
     let mut taken = Taken {
-        fed: nothing(),
+        fed: Fed::default(),
         count,
     };
     for placed in records {
         let next = take_record(space, placed, taken.count, rows);
         taken = Taken {
-            fed: sum_fed(taken.fed, next.fed),
+            fed: taken.fed.saturating_add(next.fed),
             count: next.count,
         };
     }

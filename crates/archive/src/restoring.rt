@@ -1,17 +1,14 @@
 // Restore: a fresh archive from saved blocks.
-ghost use Rattle.std.specs.Prelude.{◌≡◌, ◌<◌, [], map, length, Some, None, MatchResult, slice_index_or};
+ghost use Rattle.std.specs.Prelude.{◌≡◌, ℕ, List, [], ◌∷◌, ◌++◌, map, length, Some, None, MatchResult};
 ghost use Rattle.space.specs.Recording.{FourEach, read_point};
-ghost use Rattle.history.specs.Answers.{told_feed};
 ghost use Rattle.history.specs.Theorems.{RoundTrip};
-ghost use Rattle.archive.specs.Feeding.{FeedRight};
 ghost use Rattle.archive.specs.Lent.{lending};
-ghost use Rattle.archive.specs.Restoring.{FedAll, RestoreRight, fed_of, first_at_fault, restore_fault};
+ghost use Rattle.archive.specs.Restoring.{FedAll, RestoreRight, first_at_fault, restore_fault};
 ghost use Rattle.archive.specs.Standing.{Begins};
 
 use crate::holding::Archive;
 use crate::making::Refused;
-use crate::summing::{nothing, sum_fed};
-use history::{Denial, Fed, FeedFault};
+use history::{Denial, Fed};
 use log_block::{Fault, check};
 use space::{Recorded, Trial};
 
@@ -38,6 +35,19 @@ pub struct Unrestored<S> {
     pub fault: RestoreFault,
 }
 
+impl<S> From<Refused<S>> for Unrestored<S> {
+    ghost use Rattle.archive.specs.declared.restoring.RestoreFault.TheVariants.{Denied};
+
+    ghost from_gives = { λ r u. (u.space ≡ r.space) × (u.fault ≡ Denied r.denial) };
+
+    fn from(refused: Refused<S>) -> Unrestored<S> {
+        Unrestored {
+            space: refused.space,
+            fault: RestoreFault::Denied(refused.denial),
+        }
+    }
+}
+
 // How many objectives a recorded space has, as a block says it.
 fn objectives_of<S: Recorded>(space: &S) -> u8
     ensures value { result ≡ (S.Space.meaning space.now).objectives }
@@ -46,40 +56,29 @@ fn objectives_of<S: Recorded>(space: &S) -> u8
     (space.width() / 4) as u8
 }
 
-// The first of these blocks that is at fault.
-fn first_at_fault(objectives: u8, blocks: &[&[u8]]) -> Option<RestoreFault>
-    ensures { result ≡ first_at_fault objectives 0 (map (λ b. b.now) blocks.now) }
+// Checks all of these blocks: the first that is at fault is told.
+fn check_all(objectives: u8, blocks: &[&[u8]]) -> Result<(), RestoreFault>
+    ensures { MatchResult result (λ _. first_at_fault objectives 0 (map (λ b. b.now) blocks.now) ≡ None) (λ f. first_at_fault objectives 0 (map (λ b. b.now) blocks.now) ≡ Some f) }
 {
     for (index, block) in blocks.iter().enumerate() {
+        // with `map_err` and `?` the proof does not learn what the closure gave
         if let Err(fault) = check(block, objectives) {
-            return Some(RestoreFault::Block { index, fault });
+            return Err(RestoreFault::Block { index, fault });
         }
     }
-    None
+    Ok(())
 }
 
-// What a feed told of the trials of its block: nothing if it was refused.
-fn fed_of(answer: Result<Fed, FeedFault>) -> Fed
-    ensures { result ≡ fed_of (told_feed answer) }
-{
-    match answer {
-        Ok(fed) => fed,
-        Err(_) => nothing(),
-    }
-}
-
-// Feeds one of these blocks to the archive.
-fn feed_at<S: Recorded>(
+// Feeds one block more, after some whose sum is given. A refused feed tells of no trials.
+fn feed_more<S: Recorded>(
     archive: &mut Archive<S>,
     rows: &mut [Trial<S::Point>],
-    blocks: &[&[u8]],
-    at: usize,
-) -> Result<Fed, FeedFault>
-    requires { at < length blocks.now }
-    ensures space { archive.new.space ≡ archive.old.space }
-    ensures right { FeedRight (S.Space.meaning archive.old.space) (read_point (S.Recorded.recording archive.old.space)) (slice_index_or (map (λ b. b.now) blocks.now) at []) (lending archive.old rows.old []) result (lending archive.new rows.new []) }
+    total: Fed,
+    block: &[u8],
+) -> Fed
+    ensures { (space : S) (fed : List (List ℕ)) → archive.old.space ≡ space → FedAll (S.Space.meaning space) (read_point (S.Recorded.recording space)) fed total (lending archive.old rows.old []) → (archive.new.space ≡ space) × FedAll (S.Space.meaning space) (read_point (S.Recorded.recording space)) (fed ++ block.now ∷ []) result (lending archive.new rows.new []) }
 {
-    archive.feed(blocks[at], rows)
+    total.saturating_add(archive.feed(block, rows).unwrap_or_default())
 }
 
 // Feeds all blocks to an archive that has just been made, in order.
@@ -92,14 +91,15 @@ fn feed_all<S: Recorded>(
     ensures space { archive.new.space ≡ archive.old.space }
     ensures right { FedAll (S.Space.meaning archive.old.space) (read_point (S.Recorded.recording archive.old.space)) (map (λ b. b.now) blocks.now) result (lending archive.new rows.new []) }
 {
-    let mut total = nothing();
-    for i in 0..blocks.len() {
-        total = sum_fed(total, fed_of(feed_at(archive, rows, blocks, i)));
+    let mut total = Fed::default();
+    for block in blocks {
+        total = feed_more(archive, rows, total, block);
     }
     total
 }
 
 // The restore that `restore` hands on, with what holds of it.
+#[tactic(auto, using(history::proofs::Feeds::round_trip))]
 fn restore_all<S: Recorded>(
     space: S,
     rows: &mut [Trial<S::Point>],
@@ -109,21 +109,9 @@ fn restore_all<S: Recorded>(
     ensures law { RoundTrip S.Point }
 {
     let objectives = objectives_of(&space);
-    let mut archive = match Archive::new(space, rows) {
-        Ok(archive) => archive,
-        Err(Refused { space, denial }) => {
-            return Err(Unrestored {
-                space,
-                fault: RestoreFault::Denied(denial),
-            });
-        }
-    };
-    if let Some(fault) = first_at_fault(objectives, blocks) {
-        let Archive {
-            space,
-            rows: _,
-            count: _,
-        } = archive;
+    let mut archive = Archive::new(space, rows)?;
+    if let Err(fault) = check_all(objectives, blocks) {
+        let Archive { space, .. } = archive;
         return Err(Unrestored { space, fault });
     }
     let fed = feed_all(&mut archive, rows, blocks);

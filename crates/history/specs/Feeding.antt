@@ -1,5 +1,6 @@
 -- What the trials of a block come to, each judged against the members that those before it left.
-use Rattle.std.specs.Prelude.{ℕ, ◌+◌, ◌-◌, cond, List, [], ◌∷◌, length, Some, None}
+use Rattle.std.specs.Prelude.{ℕ, ◌+◌, ◌-◌, ◌^◌, min, cond, List, [], ◌∷◌, length, Some, None}
+use Rattle.std.specs.Option.{option_or}
 use Rattle.space.specs.Meaning.{Meaning}
 use Rattle.space.specs.declared.tagged.Trial.{Trial}
 use Rattle.history.specs.declared.faults.DeniedTrial.{DeniedTrial}
@@ -13,6 +14,30 @@ use Rattle.history.specs.State.{entries, on_grid}
 -- n trials that all entered, and nothing else
 abbrev pub all_entered : ℕ → Fed
 all_entered n = record { entered = n; passed = 0; denied = 0; displaced = 0; first = None }
+
+-- some trials and then others: the first that was denied is the first of the earlier ones, if one of them was
+abbrev pub sum_fed : Fed → Fed → Fed
+sum_fed f g = record {
+  entered = f.entered + g.entered;
+  passed = f.passed + g.passed;
+  denied = f.denied + g.denied;
+  displaced = f.displaced + g.displaced;
+  first = option_or f.first g.first;
+}
+
+-- a number, or the greatest of its type
+abbrev pub capped : ℕ → ℕ
+capped n = min n (2 ^ 64 - 1)
+
+-- the same of each of the four
+abbrev pub capped_fed : Fed → Fed
+capped_fed f = record {
+  entered = capped f.entered;
+  passed = capped f.passed;
+  denied = capped f.denied;
+  displaced = capped f.displaced;
+  first = f.first;
+}
 
 -- a denied trial, and then the rest
 abbrev pub then_denied : DeniedTrial → Fed → Fed

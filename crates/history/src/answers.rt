@@ -1,5 +1,6 @@
 // What the calls of an archive answer.
 ghost use Rattle.std.specs.Prelude.{◌≡◌};
+ghost use Rattle.history.specs.Feeding.{capped_fed, sum_fed};
 ghost use Rattle.history.specs.Reports.{first_report};
 
 use crate::denials::Denial;
@@ -16,7 +17,7 @@ pub struct Offered {
 }
 
 // What the trials of a block came to.
-#[derive(Clone, Copy, PartialEq, Eq, Debug)]
+#[derive(Clone, Copy, PartialEq, Eq, Debug, Default)]
 pub struct Fed {
     // how many trials entered, with any verdict but passed over
     pub entered: usize,
@@ -31,18 +32,30 @@ pub struct Fed {
 }
 
 impl Fed {
+    // What these trials and then others came to. A number that would pass the greatest of its type stays at it: no block has
+    // so many trials, but blocks may be many.
+    pub fn saturating_add(self, later: Fed) -> Fed
+        ensures { result ≡ capped_fed (sum_fed self later) }
+    {
+        Fed {
+            entered: self.entered.saturating_add(later.entered),
+            passed: self.passed.saturating_add(later.passed),
+            denied: self.denied.saturating_add(later.denied),
+            displaced: self.displaced.saturating_add(later.displaced),
+            first: self.first.or(later.first),
+        }
+    }
+
     // The first denied trial by its number, its layer and its place; all zeros if none was denied.
     pub fn first_report(&self) -> Report
         ensures { result ≡ first_report self.now.first }
     {
-        match self.first {
-            Some(denied) => denied.report(),
-            None => Report {
-                number: 0,
-                layer: 0,
-                place: 0,
-            },
-        }
+        let none = Report {
+            number: 0,
+            layer: 0,
+            place: 0,
+        };
+        self.first.map_or(none, |denied| denied.report())
     }
 }
 

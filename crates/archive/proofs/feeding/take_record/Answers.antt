@@ -1,4 +1,4 @@
-use Rattle.std.proofs.Common.{ap}
+use Rattle.std.proofs.Common.{ap, rules}
 use Rattle.space.specs.Recording.{read_point}
 use Rattle.log_block.specs.Reading.{seen}
 use Rattle.archive.proofs.Taking.{record_skipped, record_tried}
@@ -11,5 +11,5 @@ returns-in-Trial g c =
 
 pub returns-in-Note : goal.returns-in-Note
 returns-in-Note g c =
-    record_skipped (g.S.Space.meaning c.args.space.now) (read_point (g.S.Recorded.recording c.args.space.now)) c.args.placed.place c.args.count (seen c.args.placed.record) c.args.rows.now c.nothing.result
-    c.in-Note.field-0.now (ap seen c.in-Note.is) c.nothing.ensures c.requires
+    record_skipped (g.S.Space.meaning c.args.space.now) (read_point (g.S.Recorded.recording c.args.space.now)) c.args.placed.place c.args.count (seen c.args.placed.record) c.args.rows.now c.default.result
+    c.in-Note.field-0.now (ap seen c.in-Note.is) (search rules) c.requires

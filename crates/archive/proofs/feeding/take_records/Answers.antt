@@ -10,8 +10,8 @@ loop-placed-preserved g c =
     let reads = read_point (g.S.Recorded.recording c.args.space.now) in
     let all = left_to_read c.args.records in
     going_record (g.S.Space.meaning c.args.space.now) reads (trials_of reads all) c.args.count c.args.rows.now
-    (left_to_read c.loop-placed.placed-iterator) (left_to_read c.next.new.self) (seen_at c.in-Some.placed) c.loop-placed.taken c.take_record-next.result c.sum_fed.result c.loop-placed.rows c.take_record-next.new.rows
-    c.requires.known (omega (arith, trials_few reads all, c.requires.few)) c.in-Some.ensures.steps c.sum_fed.ensures c.loop-placed.invariant c.take_record-next.ensures
+    (left_to_read c.loop-placed.placed-iterator) (left_to_read c.next.new.self) (seen_at c.in-Some.placed) c.loop-placed.taken c.take_record-next.result c.saturating_add.result c.loop-placed.rows c.take_record-next.new.rows
+    c.requires.known (omega (arith, trials_few reads all, c.requires.few)) c.in-Some.ensures.steps c.saturating_add.ensures c.loop-placed.invariant c.take_record-next.ensures
 
 pub returns : goal.returns
 returns g c =

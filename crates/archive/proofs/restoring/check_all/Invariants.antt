@@ -1,7 +1,7 @@
 use Rattle.std.proofs.Common.{◌≡◌, drop}
 use Rattle.archive.specs.Restoring.{first_at_fault}
 use Rattle.archive.proofs.Returned.{bytes_of}
-use Rattle.archive.proofs.restoring.first_at_fault.Given as goal
+use Rattle.archive.proofs.restoring.check_all.Given as goal
 
 -- the blocks so far are not at fault
 abbrev pub invariant-loop-index : goal.invariant-loop-index
