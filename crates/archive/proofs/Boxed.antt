@@ -1,10 +1,10 @@
 -- A box by its six numbers, compared with another objective by objective.
-use Rattle.std.proofs.Common.{◌≡◌, ℕ, zero, suc, ◌+◌, ◌<◌, ◌≤◌, Bool, true, false, ◌&&◌, leb, List, get_or, sym, refl, ap, ◌∙◌, ⊎_elim, add-one, arith}
+use Rattle.std.proofs.Common.{◌≡◌, ℕ, zero, suc, ◌+◌, ◌<◌, ◌≤◌, Bool, true, false, ◌&&◌, leb, List, get_or, None, sym, refl, ap, ◌∙◌, ⊎_elim, add-one, arith}
 use Rattle.std.proofs.lemmas.List.FromFn.{get_or-map-range_with_len}
 use Rattle.std.proofs.lemmas.Bool.{and_right, cases_lt}
 use Rattle.space.specs.Meaning.{Meaning, Lawful}
-use Rattle.history.specs.Comparing.{at_least_in}
-use Rattle.archive.specs.Deciding.{six_boxes, ComparesIn, Compares}
+use Rattle.history.specs.Comparing.{at_least, at_least_in}
+use Rattle.archive.specs.Deciding.{six_boxes, box_order, order_of}
 
 and_comm : (a b : Bool) → (a && b) ≡ (b && a)
 and_comm true true = refl
@@ -31,16 +31,16 @@ module _ {P : Type 0} (M : Meaning P) where
       (λ (h : suc n ≤ k). let z : k ≡ suc n = omega arith in rw z at e)
       (cases_lt k (suc n))
 
-  module _ (L : Lawful M) (boxes : List ℕ) (q : P) (i theirs : ℕ) (over under : Bool) (inside : i < M.objectives) (asked : theirs ≡ M.box i q) (so_far : ComparesIn M i boxes q (record { over = over; under = under })) where
+  module _ (L : Lawful M) (boxes : List ℕ) (p q : P) (i theirs : ℕ) (over under : Bool) (inside : i < M.objectives) (known : boxes ≡ six_boxes M p) (asked : theirs ≡ M.box i q) (over_so_far : over ≡ at_least_in M i p q) (under_so_far : under ≡ at_least_in M i q p) where
     -- one objective more is compared
-    pub compares_more : ComparesIn M (i + 1) boxes q (record { over = over && leb theirs (get_or boxes i 0); under = under && leb (get_or boxes i 0) theirs })
-    compares_more p e =
-        let few = L.few.1 in
-        let mine = number_of boxes p i (omega arith) e in
-        (in_more p q i (get_or boxes i 0) theirs over mine asked (so_far p e).0, in_more q p i theirs (get_or boxes i 0) under asked mine (so_far p e).1)
+    pub compares_more : ((over && leb theirs (get_or boxes i 0)) ≡ at_least_in M (i + 1) p q) × ((under && leb (get_or boxes i 0) theirs) ≡ at_least_in M (i + 1) q p)
+    compares_more =
+        let mine = number_of boxes p i (omega (arith, L.few.1)) known in
+        (in_more p q i (get_or boxes i 0) theirs over mine asked over_so_far, in_more q p i theirs (get_or boxes i 0) under asked mine under_so_far)
 
     -- once it holds in neither direction, it never will again
-    pub compares_never : (over && leb theirs (get_or boxes i 0)) ≡ false → (under && leb (get_or boxes i 0) theirs) ≡ false → Compares M boxes q (record { over = false; under = false })
-    compares_never no-over no-under p e =
-        let more = compares_more p e in
-        (sym (fails_later p q (i + 1) M.objectives (omega arith) (sym more.0 ∙ no-over)), sym (fails_later q p (i + 1) M.objectives (omega arith) (sym more.1 ∙ no-under)))
+    pub compares_never : (over && leb theirs (get_or boxes i 0)) ≡ false → (under && leb (get_or boxes i 0) theirs) ≡ false → None ≡ box_order M p q
+    compares_never no-over no-under =
+        let never-over : at_least M p q ≡ false = fails_later p q (i + 1) M.objectives (omega arith) (sym compares_more.0 ∙ no-over) in
+        let never-under : at_least M q p ≡ false = fails_later q p (i + 1) M.objectives (omega arith) (sym compares_more.1 ∙ no-under) in
+        sym (ap (λ a. order_of a (at_least M q p)) never-over ∙ ap (order_of false) never-under)

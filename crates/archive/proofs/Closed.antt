@@ -1,11 +1,9 @@
 -- Rows that close up while a loop goes over them.
-use Rattle.std.proofs.Common.{◌≡◌, ℕ, ◌+◌, ◌-◌, ◌<◌, ◌≤◌, Bool, true, false, cond, not, List, [], ◌∷◌, ◌++◌, map, length, get_or, take, drop, set, filter, sym, refl, ap, ◌∙◌, subst, ⊎_elim, add-zero, arith}
-use Rattle.std.specs.List.{remove}
-use Rattle.std.proofs.lemmas.List.{get_or-drop, get_or_read, get_or-take, get_or-set_same, get_or-set_other, length-take-le, same_lists, take_more_set, drop-set-lt, map_push, drop-drop, append-nil, length-set}
+use Rattle.std.proofs.Common.{◌≡◌, ℕ, ◌+◌, ◌-◌, ◌<◌, ◌≤◌, Bool, true, false, cond, not, List, [], ◌∷◌, ◌++◌, map, length, get_or, take, drop, set, filter, sym, refl, ap, ◌∙◌, add-zero, arith}
+use Rattle.std.proofs.lemmas.List.{get_or-drop, take_all, take_more_set, drop-set-lt, map_push, drop-drop, append-nil, length-set}
 use Rattle.std.proofs.lemmas.List.Elements.{filter_more}
-use Rattle.std.proofs.lemmas.List.Edits.{length-remove, get_or-remove_below, get_or-remove_above}
 use Rattle.std.proofs.lemmas.List.Filters.{FiltersInPlace, FiltersInPlace-more_no, FiltersInPlace-more_set}
-use Rattle.std.proofs.lemmas.Bool.{cases_lt, cond-true, cond-false, not_from_true, not_from_false}
+use Rattle.std.proofs.lemmas.Bool.{cond-true, cond-false, not_from_true, not_from_false}
 use Rattle.space.specs.declared.tagged.Trial.{Trial}
 use Rattle.archive.specs.Offering.{Closed}
 
@@ -73,15 +71,16 @@ module _ {P : Type 0} {goes : Trial P → Bool} {xs ys : List (Trial P)} {list l
           each = omega (arith, C.each);
         }
 
-  pub closing_up_all : ClosingUp goes xs ys list list' stay went i → (count : ℕ) → i ≡ count → Closed goes count xs list stay ys list'
-  closing_up_all C count e =
+  pub closing_up_all : ClosingUp goes xs ys list list' stay went i → i ≡ length xs → Closed goes xs list stay ys list'
+  closing_up_all C e =
       let K = C.keeping in
       let N = C.noting in
-      let d : went ≡ count - stay = omega (arith, C.each) in
+      let whole = take_all i xs (omega arith) in
+      let d : went ≡ length xs - stay = omega (arith, C.each) in
       record {
         fewer = omega (arith, C.each);
-        stay = K.front ∙ ap (λ n. filter (λ r. not (goes r)) (take n xs)) e;
-        tags = λ room. ap (λ n. take n list') (sym d) ∙ N.tags (omega arith) ∙ ap (λ n. map (λ r. r.tag) (filter goes (take n xs))) e;
+        stay = K.front ∙ ap (filter (λ r. not (goes r))) whole;
+        tags = λ room. ap (λ n. take n list') (sym d) ∙ N.tags (omega arith) ∙ ap (λ l. map (λ r. r.tag) (filter goes l)) whole;
         rest = ap (λ n. drop n list') (sym d) ∙ N.rest ∙ ap (λ n. drop n list) d;
       }
 
@@ -91,40 +90,3 @@ closing_up_none goes xs list = record {
   noting = record { tags = λ _. refl; rest = refl; long = refl };
   each = refl;
 }
-
--- a gap at one place has moved up to place i
-pub record Shifting {X : Type 0} (xs ys : List X) (at count i : ℕ) : Type 0 where
-  pub front : (k : ℕ) (d : X) → k < i → get_or ys k d ≡ get_or (remove (take count xs) at) k d
-  pub rest : (k : ℕ) (d : X) → i ≤ k → get_or ys k d ≡ get_or xs k d
-
-module _ {X : Type 0} (xs : List X) (at count : ℕ) (inside : at < count) (within : count ≤ length xs) where
-  long : length (take count xs) ≡ count
-  long = length-take-le count xs within
-
-  pub shifting_none : Shifting xs xs at count at
-  shifting_none = record {
-    front = λ k d l. sym (get_or-remove_below (take count xs) at d k l (omega (arith, long)) ∙ get_or-take count xs k d (omega arith));
-    rest = λ k d l. refl;
-  }
-
-  shifting_set : (ys : List X) (i : ℕ) (x : X) → length ys ≡ length xs → at ≤ i → i + 1 < count → x ≡ get_or ys (i + 1) x → Shifting xs ys at count i → Shifting xs (set ys i x) at count (i + 1)
-  shifting_set ys i x same from upto read S =
-      let new : (d : X) → x ≡ get_or (remove (take count xs) at) i d = λ d. get_or_read ys (i + 1) x (omega arith) read d ∙ S.rest (i + 1) d (omega arith) ∙ sym (get_or-remove_above (take count xs) at d i from (omega (arith, long)) ∙ get_or-take count xs (i + 1) d upto) in
-      record {
-        front = λ k d l.
-            ⊎_elim
-            (λ (h : k < i). get_or-set_other ys i k x d (λ e. omega arith) ∙ S.front k d h)
-            (λ (h : i ≤ k). let e : k ≡ i = omega arith in subst (λ j. get_or (set ys i x) j d ≡ get_or (remove (take count xs) at) j d) (sym e) (get_or-set_same ys i x d (omega arith) ∙ new d))
-            (cases_lt k i);
-        rest = λ k d l. get_or-set_other ys i k x d (λ e. omega arith) ∙ S.rest k d (omega arith);
-      }
-
-  pub shifting_more : (ys zs : List X) (i : ℕ) (x : X) → length ys ≡ length xs → at ≤ i → i + 1 < count → x ≡ get_or ys (i + 1) x → zs ≡ set ys i x → Shifting xs ys at count i → Shifting xs zs at count (i + 1)
-  shifting_more ys zs i x same from upto read e S = subst (λ l. Shifting xs l at count (i + 1)) (sym e) (shifting_set ys i x same from upto read S)
-
-  pub shifting_all : (ys : List X) (i : ℕ) → length ys ≡ length xs → count - 1 ≤ i → Shifting xs ys at count i → take (count - 1) ys ≡ remove (take count xs) at
-  shifting_all ys i same upto S =
-      let short = length-take-le (count - 1) ys (omega arith) in
-      let left = length-remove (take count xs) at (omega (arith, long)) in
-      same_lists (take (count - 1) ys) (remove (take count xs) at) (omega (arith, short, left, long))
-      (λ k d l. get_or-take (count - 1) ys k d (omega (arith, short)) ∙ S.front k d (omega (arith, short)))

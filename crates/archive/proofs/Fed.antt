@@ -22,7 +22,8 @@ use Rattle.history.specs.Feeding.{tally}
 use Rattle.history.specs.Reports.{from_log}
 use Rattle.history.specs.State.{members_after, on_grid}
 use Rattle.history.proofs.Kept.{call_keeps, idle_call_keeps}
-use Rattle.archive.specs.declared.feeding.Taken.{Taken}
+use Rattle.archive.specs.declared.members.Members.{Members}
+use Rattle.archive.specs.Held.{held_by}
 use Rattle.archive.specs.Feeding.{FeedRight, TakenRight, members_taken}
 use Rattle.archive.specs.Lent.{Lent, members}
 
@@ -101,19 +102,21 @@ module _ {P : Type 0} (M : Meaning P) (reads : List ℕ → P) (block : List ℕ
         }
 
     -- the checks pass: the trials of the block are tried
-    pub taken_right : (xs : List (TrialAt P)) (r : Taken) (held' : List (Trial P)) → length a.held ≡ a.rows → check ≡ Ok xs → TakenRight M xs a.count a.held r held' → FeedRight M reads block a (Ok r.fed) (record { rows = a.rows; count = r.count; held = held'; list = [] })
-    taken_right xs r held' own e T =
-        let value : Ok r.fed ≡ answer_by (members a) check = ap (λ f. Ok f) (T.told ∙ ap (λ n. tally M n (members a) xs) own) ∙ ap (answer_by (members a)) (sym e) in
-        let in_order : take r.count held' ≡ members_by check = T.in_order ∙ ap (λ n. members_taken M n (members a) xs) own ∙ ap members_by (sym e) in
-        let counted : r.count ≡ length (members_by check) = sym (length-take-le r.count held' (omega (arith, T.fits, T.long))) ∙ ap length in_order in
+    pub taken_right : (xs : List (TrialAt P)) (fed : Fed) (held b : Members P) (held' : List (Trial P)) → held' ≡ b.rows.now → held.count ≡ a.count → held.rows.now ≡ a.held → length a.held ≡ a.rows → check ≡ Ok xs → TakenRight M xs held fed b → FeedRight M reads block a (Ok fed) (record { rows = a.rows; count = b.count; held = held'; list = [] })
+    taken_right xs fed held b held' left count rows own e T =
+        let same : held_by held ≡ members a = cc in
+        let n : length held.rows.now ≡ a.rows = ap length rows ∙ own in
+        let value : Ok fed ≡ answer_by (members a) check = ap (λ f. Ok f) (T.told ∙ ap (λ n. tally M n (held_by held) xs) n ∙ ap (λ ms. tally M a.rows ms xs) same) ∙ ap (answer_by (members a)) (sym e) in
+        let in_order : held_by b ≡ members_by check = T.in_order ∙ ap (λ n. members_taken M n (held_by held) xs) n ∙ ap (λ ms. members_taken M a.rows ms xs) same ∙ ap members_by (sym e) in
+        let counted : b.count ≡ length (members_by check) = sym (length-take-le b.count b.rows.now b.within) ∙ ap length in_order in
         record {
           value = value;
           same_rows = refl;
           counted = counted ∙ ap count_by (sym e);
-          in_order = in_order;
+          in_order = ap (take b.count) left ∙ in_order;
           untouched = λ h. absurd (false≢true h);
           stays = λ h S.
-              call_keeps M L reads h a.rows a.count a.held S (record { call = feed (length a.held) block; answer = told_feed (Ok r.fed) })
-              (ap told_feed value) r.count held' (T.long ∙ own) counted in_order;
+              call_keeps M L reads h a.rows a.count a.held S (record { call = feed (length a.held) block; answer = told_feed (Ok fed) })
+              (ap told_feed value) b.count held' (ap length left ∙ (T.long ∙ n)) counted (ap (take b.count) left ∙ in_order);
           stays_apart = λ other. absurd (other own);
         }

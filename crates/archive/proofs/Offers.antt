@@ -12,7 +12,8 @@ use Rattle.history.specs.Calls.{Event}
 use Rattle.history.specs.State.{members_after}
 use Rattle.history.specs.Step.{judge, members_then}
 use Rattle.history.proofs.Kept.{call_keeps, idle_call_keeps}
-use Rattle.archive.specs.declared.offering.Stepped.{Stepped}
+use Rattle.archive.specs.declared.members.Members.{Members}
+use Rattle.archive.specs.Held.{held_by}
 use Rattle.archive.specs.Lent.{Lent, members}
 use Rattle.archive.specs.Offering.{offer_of, to_judge, gone_of, TagsInFront, StepRight, OfferRight}
 use Rattle.archive.proofs.Stepped.{few_go, no_tags}
@@ -74,22 +75,27 @@ module _ {P : Type 0} (M : Meaning P) (t : Trial P) (a : Lent P) where
         }
 
     -- the checks pass: the step decides
-    pub judged_right : (r : Stepped) (held' : List (Trial P)) (list' : List ℕ) → length a.held ≡ a.rows → a.rows ≤ length a.list → to_judge M a t ≡ Ok t → StepRight (judge M (length a.held) (members a) t) a.count a.held a.list r held' list' → OfferRight M t a r.answer (record { rows = a.rows; count = r.count; held = held'; list = list' })
+    pub judged_right : (r : Result Offered Denial) (held b : Members P) (held' : List (Trial P)) (list' : List ℕ) → held' ≡ b.rows.now → held.count ≡ a.count → held.rows.now ≡ a.held → length a.held ≡ a.rows → a.rows ≤ length a.list → to_judge M a t ≡ Ok t → StepRight (judge M (length held.rows.now) (held_by held) t) held a.list r b list' → OfferRight M t a r (record { rows = a.rows; count = b.count; held = held'; list = list' })
     unfolding members_after
-    judged_right r held' list' own long e stepped =
-        let S = subst (λ n. StepRight (judge M n (members a) t) a.count a.held a.list r held' list') own stepped in
-        let value : r.answer ≡ answer_by (members a) (to_judge M a t) = S.value ∙ ap (answer_by (members a)) (sym e) in
+    judged_right r held b held' list' left count rows own long e stepped =
+        let same : held_by held ≡ members a = cc in
+        let outcome : judge M (length held.rows.now) (held_by held) t ≡ judge M a.rows (members a) t = ap (λ n. judge M n (held_by held) t) (ap length rows ∙ own) ∙ ap (λ ms. judge M a.rows ms t) same in
+        let S = subst (λ o. StepRight o held a.list r b list') outcome stepped in
+        let value : r ≡ answer_by (members a) (to_judge M a t) = S.value ∙ ap (answer_by (members a)) (sym e) in
         let room : length (gone_of (judge M a.rows (members a) t)) ≤ length a.list = omega (arith, (few_go M t a.rows (members a)).0, length-take a.count a.held) in
         let called = ap (λ k. members_after M a.rows (members a) (brought_by k)) (sym e) in
+        let after = λ (ms : List (Trial P)). members_then ms (judge M a.rows (members a) t) in
+        let counted : b.count ≡ length (after (members a)) = S.counted ∙ ap (λ ms. length (after ms)) same in
+        let in_order : held_by b ≡ after (members a) = S.in_order ∙ ap after same in
         record {
           value = value;
           same_rows = refl;
-          counted = S.counted ∙ ap count_by (sym e);
-          in_order = S.in_order ∙ ap members_by (sym e);
+          counted = counted ∙ ap count_by (sym e);
+          in_order = ap (take b.count) left ∙ in_order ∙ ap members_by (sym e);
           tags = subst (λ k. TagsInFront (gone_by k) a.list list') (sym e) (S.tags room);
-          untouched = S.untouched;
+          untouched = λ h. let u = S.untouched h in (u.0 ∙ count, left ∙ (u.1 ∙ rows), u.2);
           stays = λ reads h stood.
-              call_keeps M L reads h a.rows a.count a.held stood (record { call = offer_of a t; answer = told answer.Offered r.answer })
-              (ap (told answer.Offered) value) r.count held' (S.long ∙ own) (S.counted ∙ ap length called) (S.in_order ∙ called);
+              call_keeps M L reads h a.rows a.count a.held stood (record { call = offer_of a t; answer = told answer.Offered r })
+              (ap (told answer.Offered) value) b.count held' (ap length left ∙ (S.long ∙ ap length rows ∙ own)) (counted ∙ ap length called) (ap (take b.count) left ∙ in_order ∙ called);
           stays_apart = λ other. absurd (other own);
         }

@@ -1,10 +1,12 @@
 -- The trials of a block, tried one after the other.
-use Rattle.std.proofs.Common.{◌≡◌, ℕ, suc, ◌+◌, ◌-◌, ◌^◌, ◌<◌, ◌≤◌, true, false, cond, List, [], ◌∷◌, ◌++◌, map, length, take, Some, None, Err, filter, sym, refl, ap, ◌∙◌, subst, add-zero, zero-add, add-one, add_assoc, length-take, arith}
+use Rattle.std.proofs.Common.{◌≡◌, ℕ, suc, ◌+◌, ◌-◌, ◌^◌, ◌<◌, ◌≤◌, true, false, cond, List, [], ◌∷◌, ◌++◌, map, length, take, Some, None, Err, Result, filter, sym, refl, ap, ◌∙◌, subst, add-zero, zero-add, add-one, add_assoc, length-take, arith}
 use Rattle.std.specs.Option.{option_or}
 use Rattle.space.specs.Meaning.{Meaning}
 use Rattle.space.specs.declared.tagged.Trial.{Trial}
 use Rattle.log_block.specs.Items.{Item, ItemAt, trial, note}
 use Rattle.history.specs.declared.answers.Fed.{Fed}
+use Rattle.history.specs.declared.answers.Offered.{Offered}
+use Rattle.history.specs.declared.denials.Denial.{Denial}
 use Rattle.history.specs.declared.denials.Denial.TheVariants as denial
 use Rattle.history.specs.declared.faults.DeniedTrial.TheVariants.{OffGrid}
 use Rattle.history.specs.declared.verdicts.Verdict.TheVariants.{PassedOver, Entered, Displaced, Replaced}
@@ -14,8 +16,8 @@ use Rattle.history.specs.Feeding.{all_entered, capped, capped_fed, sum_fed, then
 use Rattle.history.specs.State.{entries, members_after, on_grid}
 use Rattle.history.specs.Step.{Outcome, judge, members_then}
 use Rattle.history.specs.Step.Outcome.{judged, full}
-use Rattle.archive.specs.declared.feeding.Taken.{Taken}
-use Rattle.archive.specs.declared.offering.Stepped.{Stepped}
+use Rattle.archive.specs.declared.members.Members.{Members}
+use Rattle.archive.specs.Held.{held_by}
 use Rattle.archive.specs.Feeding.{TriedRight, TakenRight, members_taken, members_tried, trial_answer}
 use Rattle.archive.specs.Offering.{gone_of}
 use Rattle.archive.specs.Summing.{one_fed}
@@ -140,53 +142,53 @@ module _ {P : Type 0} (M : Meaning P) where
   tally_below rows ms xs few short = let f = tally_few rows ms xs in (omega (arith, f.0), omega (arith, f.0), omega (arith, f.0), omega (arith, f.1))
 
   -- one trial is tried
-  pub taken_one : (x : TrialAt P) (count : ℕ) (held held' : List (Trial P)) (r : Stepped) → TriedRight M x.read count held r held' → TakenRight M (x ∷ []) count held (record { fed = one_fed x.place r.answer; count = r.count }) held'
-  taken_one x count held held' r T = record {
-    told = ap (one_fed x.place) T.value ∙ sym (tally_one (length held) (take count held) x);
-    in_order = T.in_order ∙ sym (members_one (length held) (take count held) x);
-    fits = T.fits;
+  pub taken_one : (x : TrialAt P) (a b : Members P) (r : Result Offered Denial) → TriedRight M x.read a r b → TakenRight M (x ∷ []) a (one_fed x.place r) b
+  taken_one x a b r T = record {
+    told = ap (one_fed x.place) T.value ∙ sym (tally_one (length a.rows.now) (held_by a) x);
+    in_order = T.in_order ∙ sym (members_one (length a.rows.now) (held_by a) x);
     long = T.long;
+    same_rows = T.same_rows;
   }
 
   -- none is
-  pub taken_none : (count : ℕ) (held : List (Trial P)) → count ≤ length held → TakenRight M [] count held (record { fed = all_entered 0; count = count }) held
+  pub taken_none : (a : Members P) → TakenRight M [] a (all_entered 0) a
   unfolding tally members_after
-  taken_none count held l = record { told = refl; in_order = refl; fits = l; long = refl }
+  taken_none a = record { told = refl; in_order = refl; long = refl; same_rows = refl }
 
   -- all of the trials xs come to what those came to that were tried, and what is left comes to
-  pub record Going (xs : List (TrialAt P)) (count : ℕ) (held : List (Trial P)) (left : List (TrialAt P)) (r : Taken) (held' : List (Trial P)) : Type 0 where
-    pub told : sum_fed r.fed (tally M (length held) (take r.count held') left) ≡ tally M (length held) (take count held) xs
-    pub in_order : members_taken M (length held) (take r.count held') left ≡ members_taken M (length held) (take count held) xs
-    pub fits : r.count ≤ length held
-    pub long : length held' ≡ length held
+  pub record Going (xs : List (TrialAt P)) (a : Members P) (left : List (TrialAt P)) (r : Fed) (b : Members P) : Type 0 where
+    pub told : sum_fed r (tally M (length a.rows.now) (held_by b) left) ≡ tally M (length a.rows.now) (held_by a) xs
+    pub in_order : members_taken M (length a.rows.now) (held_by b) left ≡ members_taken M (length a.rows.now) (held_by a) xs
+    pub long : length b.rows.now ≡ length a.rows.now
+    pub same_rows : b.rows.ghost_name ≡ a.rows.ghost_name
 
-  module _ (xs : List (TrialAt P)) (count : ℕ) (held : List (Trial P)) where
-    pub going_none : count ≤ length held → Going xs count held xs (record { fed = all_entered 0; count = count }) held
-    going_none l = record { told = none_sum (tally M (length held) (take count held) xs); in_order = refl; fits = l; long = refl }
+  module _ (xs : List (TrialAt P)) (a : Members P) where
+    pub going_none : Going xs a xs (all_entered 0) a
+    going_none = record { told = none_sum (tally M (length a.rows.now) (held_by a) xs); in_order = refl; long = refl; same_rows = refl }
 
-    pub going_more : (now left : List (TrialAt P)) (r next : Taken) (held₁ held₂ : List (Trial P)) → count ≤ 4096 → length xs ≤ 255 → Going xs count held (now ++ left) r held₁ → TakenRight M now r.count held₁ next held₂ → Going xs count held left (record { fed = capped_fed (sum_fed r.fed next.fed); count = next.count }) held₂
-    going_more now left r next held₁ held₂ few short G T =
-        let n = length held in
-        let ms = take r.count held₁ in
+    pub going_more : (now left : List (TrialAt P)) (r next : Fed) (b c : Members P) → a.count ≤ 4096 → length xs ≤ 255 → Going xs a (now ++ left) r b → TakenRight M now b next c → Going xs a left (capped_fed (sum_fed r next)) c
+    going_more now left r next b c few short G T =
+        let n = length a.rows.now in
+        let ms = held_by b in
         let same = G.long in
         let append = taken_append n ms now left in
-        let members : take next.count held₂ ≡ members_taken M n ms now = T.in_order ∙ ap (λ k. members_taken M k ms now) same in
-        let fed : next.fed ≡ tally M n ms now = T.told ∙ ap (λ k. tally M k ms now) same in
-        let rest = tally M n (take next.count held₂) left in
-        let both : sum_fed next.fed rest ≡ tally M n ms (now ++ left) = ap (λ f. sum_fed f rest) fed ∙ ap (λ l. sum_fed (tally M n ms now) (tally M n l left)) members ∙ sym append.0 in
-        let all : sum_fed r.fed (sum_fed next.fed rest) ≡ tally M n (take count held) xs = ap (sum_fed r.fed) both ∙ G.told in
-        let below = tally_below n (take count held) xs (omega (arith, length-take count held)) short in
-        let same_sum = capped_fed_same (sum_fed r.fed next.fed) (below_part (2 ^ 64) r.fed next.fed rest (tally M n (take count held) xs) all below) in
+        let members : held_by c ≡ members_taken M n ms now = T.in_order ∙ ap (λ k. members_taken M k ms now) same in
+        let fed : next ≡ tally M n ms now = T.told ∙ ap (λ k. tally M k ms now) same in
+        let rest = tally M n (held_by c) left in
+        let both : sum_fed next rest ≡ tally M n ms (now ++ left) = ap (λ f. sum_fed f rest) fed ∙ ap (λ l. sum_fed (tally M n ms now) (tally M n l left)) members ∙ sym append.0 in
+        let all : sum_fed r (sum_fed next rest) ≡ tally M n (held_by a) xs = ap (sum_fed r) both ∙ G.told in
+        let below = tally_below n (held_by a) xs (omega (arith, length-take a.count a.rows.now)) short in
+        let same_sum = capped_fed_same (sum_fed r next) (below_part (2 ^ 64) r next rest (tally M n (held_by a) xs) all below) in
         record {
-          told = ap (λ f. sum_fed f rest) same_sum ∙ sum_assoc r.fed next.fed rest ∙ all;
+          told = ap (λ f. sum_fed f rest) same_sum ∙ sum_assoc r next rest ∙ all;
           in_order = ap (λ l. members_taken M n l left) members ∙ sym append.1 ∙ G.in_order;
-          fits = omega (arith, T.fits, same);
           long = T.long ∙ same;
+          same_rows = T.same_rows ∙ G.same_rows;
         }
 
-    pub going_all : (r : Taken) (held' : List (Trial P)) → Going xs count held [] r held' → TakenRight M xs count held r held'
+    pub going_all : (r : Fed) (b : Members P) → Going xs a [] r b → TakenRight M xs a r b
     unfolding tally members_after
-    going_all r held' G = record { told = sym (sum_none r.fed) ∙ G.told; in_order = G.in_order; fits = G.fits; long = G.long }
+    going_all r b G = record { told = sym (sum_none r) ∙ G.told; in_order = G.in_order; long = G.long; same_rows = G.same_rows }
 
 module _ {P : Type 0} (reads : List ℕ → P) where
   -- the trials of records are those of the first and those of the rest
@@ -201,26 +203,26 @@ module _ {P : Type 0} (reads : List ℕ → P) where
       let rest = trials_few xs in
       elim x.item as (λ i. length (trials_of reads (record { place = x.place; item = i } ∷ xs)) ≤ suc (length xs)) [ trial tag bytes ↦ omega arith | note text ↦ omega arith ]
 
-module _ {P : Type 0} (M : Meaning P) (reads : List ℕ → P) (place count : ℕ) (i : Item) (held : List (Trial P)) (fed : Fed) where
+module _ {P : Type 0} (M : Meaning P) (reads : List ℕ → P) (place : ℕ) (i : Item) (a : Members P) (fed : Fed) where
   -- a record that is a trial is tried
-  pub record_tried : (tag : ℕ) (bytes : List ℕ) (p : P) (held' : List (Trial P)) (r : Stepped) → i ≡ trial tag bytes → p ≡ reads bytes → fed ≡ one_fed place r.answer → TriedRight M (record { point = p; tag = tag }) count held r held' → TakenRight M (trials_of reads (record { place = place; item = i } ∷ [])) count held (record { fed = fed; count = r.count }) held'
-  record_tried tag bytes p held' r e read told T =
+  pub record_tried : (tag : ℕ) (bytes : List ℕ) (p : P) (r : Result Offered Denial) (b : Members P) → i ≡ trial tag bytes → p ≡ reads bytes → fed ≡ one_fed place r → TriedRight M (record { point = p; tag = tag }) a r b → TakenRight M (trials_of reads (record { place = place; item = i } ∷ [])) a fed b
+  record_tried tag bytes p r b e read told T =
       rw (e, told)
-      (taken_one M (record { place = place; read = record { point = reads bytes; tag = tag } }) count held held' r (subst (λ p. TriedRight M (record { point = p; tag = tag }) count held r held') read T))
+      (taken_one M (record { place = place; read = record { point = reads bytes; tag = tag } }) a b r (subst (λ p. TriedRight M (record { point = p; tag = tag }) a r b) read T))
 
   -- and one that is a note is skipped
-  pub record_skipped : (text : List ℕ) → i ≡ note text → fed ≡ all_entered 0 → count ≤ length held → TakenRight M (trials_of reads (record { place = place; item = i } ∷ [])) count held (record { fed = fed; count = count }) held
-  record_skipped text e told l = rw (e, told) (taken_none M count held l)
+  pub record_skipped : (text : List ℕ) → i ≡ note text → fed ≡ all_entered 0 → TakenRight M (trials_of reads (record { place = place; item = i } ∷ [])) a fed a
+  record_skipped text e told = rw (e, told) (taken_none M a)
 
-module _ {P : Type 0} (M : Meaning P) (reads : List ℕ → P) (xs : List (TrialAt P)) (count : ℕ) (held : List (Trial P)) where
+module _ {P : Type 0} (M : Meaning P) (reads : List ℕ → P) (xs : List (TrialAt P)) (a : Members P) where
   -- one record more is taken
-  pub going_record : (before after : List ItemAt) (x : ItemAt) (r next : Taken) (fed : Fed) (held₁ held₂ : List (Trial P)) → count ≤ 4096 → length xs ≤ 255 → before ≡ x ∷ after → fed ≡ capped_fed (sum_fed r.fed next.fed)
-      → Going M xs count held (trials_of reads before) r held₁ → TakenRight M (trials_of reads (x ∷ [])) r.count held₁ next held₂ → Going M xs count held (trials_of reads after) (record { fed = fed; count = next.count }) held₂
-  going_record before after x r next fed held₁ held₂ few short first sum G T =
+  pub going_record : (before after : List ItemAt) (x : ItemAt) (r next fed : Fed) (b c : Members P) → a.count ≤ 4096 → length xs ≤ 255 → before ≡ x ∷ after → fed ≡ capped_fed (sum_fed r next)
+      → Going M xs a (trials_of reads before) r b → TakenRight M (trials_of reads (x ∷ [])) b next c → Going M xs a (trials_of reads after) fed c
+  going_record before after x r next fed b c few short first sum G T =
       let split = ap (trials_of reads) first ∙ trials_first reads x after in
       rw sum
-      (going_more M xs count held (trials_of reads (x ∷ [])) (trials_of reads after) r next held₁ held₂ few short (subst (λ ys. Going M xs count held ys r held₁) split G) T)
+      (going_more M xs a (trials_of reads (x ∷ [])) (trials_of reads after) r next b c few short (subst (λ ys. Going M xs a ys r b) split G) T)
 
   -- all are
-  pub going_records : (left : List ItemAt) (r : Taken) (held' : List (Trial P)) → left ≡ [] → Going M xs count held (trials_of reads left) r held' → TakenRight M xs count held r held'
-  going_records left r held' none G = going_all M xs count held r held' (subst (λ l. Going M xs count held (trials_of reads l) r held') none G)
+  pub going_records : (left : List ItemAt) (r : Fed) (b : Members P) → left ≡ [] → Going M xs a (trials_of reads left) r b → TakenRight M xs a r b
+  going_records left r b none G = going_all M xs a r b (subst (λ l. Going M xs a (trials_of reads l) r b) none G)

@@ -1,12 +1,13 @@
 -- What is to be done with a trial, decided in one pass over the members.
-use Rattle.std.specs.Prelude.{◌≡◌, ℕ, ◌+◌, Bool, cond, List, [], ◌∷◌, map}
+use Rattle.std.specs.Prelude.{ℕ, ◌+◌, Bool, true, false, cond, List, [], ◌∷◌, map, Option, Some, None}
+use Rattle.std.specs.declared.cmp.Ordering.{Ordering}
+use Rattle.std.specs.declared.cmp.Ordering.TheVariants.{Less, Equal, Greater}
 use Rattle.std.specs.List.{range_with_len}
 use Rattle.space.specs.Meaning.{Meaning}
 use Rattle.space.specs.declared.tagged.Trial.{Trial}
 use Rattle.history.specs.Lists.{any}
-use Rattle.history.specs.Comparing.{at_least_in}
+use Rattle.history.specs.Comparing.{at_least}
 use Rattle.history.specs.Step.{below, beaten, shuts}
-use Rattle.archive.specs.declared.boxing.Compared.{Compared}
 use Rattle.archive.specs.declared.deciding.Class.{Class}
 use Rattle.archive.specs.declared.deciding.Class.TheVariants.{Below, Beaten, Shuts, Apart}
 use Rattle.archive.specs.declared.deciding.Decision.{Decision}
@@ -16,13 +17,16 @@ use Rattle.archive.specs.declared.deciding.Decision.TheVariants.{Displace, Repla
 abbrev pub six_boxes : {P : Type 0} → Meaning P → P → List ℕ
 six_boxes M p = map (λ i. M.box i p) (range_with_len 0 6)
 
--- of any point with these box numbers: whether in each of the first k objectives its number is at least q's, and q's at least its own
-abbrev pub ComparesIn : {P : Type 0} → Meaning P → ℕ → List ℕ → P → Compared → Type 0
-ComparesIn {P} M k boxes q r = (p : P) → boxes ≡ six_boxes M p → (r.over ≡ at_least_in M k p q) × (r.under ≡ at_least_in M k q p)
+-- how a box compares with another: by whether it is at least as great in every objective, and whether the other is
+abbrev pub order_of : Bool → Bool → Option Ordering
+order_of true true = Some Equal
+order_of true false = Some Greater
+order_of false true = Some Less
+order_of false false = None
 
--- and so in every objective
-abbrev pub Compares : {P : Type 0} → Meaning P → List ℕ → P → Compared → Type 0
-Compares M boxes q r = ComparesIn M M.objectives boxes q r
+-- how the box of p compares with that of q
+abbrev pub box_order : {P : Type 0} → Meaning P → P → P → Option Ordering
+box_order M p q = order_of (at_least M p q) (at_least M q p)
 
 -- what a member is to the trial, by the first of these that applies
 abbrev pub class : {P : Type 0} → Meaning P → Trial P → Trial P → Class

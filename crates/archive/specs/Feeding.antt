@@ -1,5 +1,5 @@
 -- What a feed answers, and what it leaves in the rows.
-use Rattle.std.specs.Prelude.{◌≡◌, ℕ, ◌≤◌, true, cond, List, map, length, take, is_err, Ok, Err, filter, Result}
+use Rattle.std.specs.Prelude.{◌≡◌, ℕ, true, cond, List, map, length, is_err, Ok, Err, filter, Result}
 use Rattle.space.specs.Meaning.{Meaning}
 use Rattle.space.specs.declared.tagged.Trial.{Trial}
 use Rattle.history.specs.declared.answers.Fed.{Fed}
@@ -14,8 +14,8 @@ use Rattle.history.specs.Checks.{feed_check}
 use Rattle.history.specs.Feeding.{tally}
 use Rattle.history.specs.State.{members_after, members_called, on_grid}
 use Rattle.history.specs.Step.{judge, members_then}
-use Rattle.archive.specs.declared.feeding.Taken.{Taken}
-use Rattle.archive.specs.declared.offering.Stepped.{Stepped}
+use Rattle.archive.specs.declared.members.Members.{Members}
+use Rattle.archive.specs.Held.{held_by}
 use Rattle.archive.specs.Lent.{Lent, members}
 use Rattle.archive.specs.Standing.{StaysAs, StaysApartAs}
 
@@ -27,23 +27,23 @@ trial_answer M rows members t = cond (on_grid M t) (verdict_of (judge M rows mem
 abbrev pub members_tried : {P : Type 0} → Meaning P → ℕ → List (Trial P) → Trial P → List (Trial P)
 members_tried M rows members t = cond (on_grid M t) (members_then members (judge M rows members t)) members
 
--- the rows once a trial of a block was tried: the answer and the new count are told, and the members are in front
-pub record TriedRight {P : Type 0} (M : Meaning P) (t : Trial P) (count : ℕ) (held : List (Trial P)) (r : Stepped) (held' : List (Trial P)) : Type 0 where
-  pub value : r.answer ≡ trial_answer M (length held) (take count held) t
-  pub in_order : take r.count held' ≡ members_tried M (length held) (take count held) t
-  pub fits : r.count ≤ length held
-  pub long : length held' ≡ length held
+-- the rows once a trial of a block was tried: the answer is told, and the members are in front of the same rows
+pub record TriedRight {P : Type 0} (M : Meaning P) (t : Trial P) (a : Members P) (r : Result Offered Denial) (b : Members P) : Type 0 where
+  pub value : r ≡ trial_answer M (length a.rows.now) (held_by a) t
+  pub in_order : held_by b ≡ members_tried M (length a.rows.now) (held_by a) t
+  pub long : length b.rows.now ≡ length a.rows.now
+  pub same_rows : b.rows.ghost_name ≡ a.rows.ghost_name
 
 -- the members after these trials of a block, which are judged where they are on the grid
 abbrev pub members_taken : {P : Type 0} → Meaning P → ℕ → List (Trial P) → List (TrialAt P) → List (Trial P)
 members_taken M rows members xs = members_after M rows members (filter (on_grid M) (map (λ x. x.read) xs))
 
--- the rows once some trials of a block were tried, one after the other: what they came to and the new count are told
-pub record TakenRight {P : Type 0} (M : Meaning P) (xs : List (TrialAt P)) (count : ℕ) (held : List (Trial P)) (r : Taken) (held' : List (Trial P)) : Type 0 where
-  pub told : r.fed ≡ tally M (length held) (take count held) xs
-  pub in_order : take r.count held' ≡ members_taken M (length held) (take count held) xs
-  pub fits : r.count ≤ length held
-  pub long : length held' ≡ length held
+-- the rows once some trials of a block were tried, one after the other: what they came to is told, and the members are in front
+pub record TakenRight {P : Type 0} (M : Meaning P) (xs : List (TrialAt P)) (a : Members P) (r : Fed) (b : Members P) : Type 0 where
+  pub told : r ≡ tally M (length a.rows.now) (held_by a) xs
+  pub in_order : held_by b ≡ members_taken M (length a.rows.now) (held_by a) xs
+  pub long : length b.rows.now ≡ length a.rows.now
+  pub same_rows : b.rows.ghost_name ≡ a.rows.ghost_name
 
 -- how many members there are after the feed of a block
 abbrev pub count_fed : {P : Type 0} → Meaning P → (List ℕ → P) → Lent P → List ℕ → ℕ

@@ -1,4 +1,5 @@
 pub mod Lent
+pub mod Held
 pub mod Standing
 pub mod Deciding
 pub mod Offering

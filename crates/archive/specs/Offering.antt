@@ -14,7 +14,8 @@ use Rattle.history.specs.Calls.Call.{offer}
 use Rattle.history.specs.Checks.{offer_check}
 use Rattle.history.specs.Step.{Outcome, judge, members_then}
 use Rattle.history.specs.Step.Outcome.{judged, full}
-use Rattle.archive.specs.declared.offering.Stepped.{Stepped}
+use Rattle.archive.specs.declared.members.Members.{Members}
+use Rattle.archive.specs.Held.{held_by}
 use Rattle.archive.specs.Lent.{Lent, members}
 use Rattle.archive.specs.Standing.{Stays, StaysApart}
 
@@ -46,13 +47,13 @@ pub record TagsInFront {P : Type 0} (gone : List (Trial P)) (before after : List
   pub tags : IsPermutation (map (λ r. r.tag) gone) (take (length gone) after)
   pub rest : drop (length gone) after ≡ drop (length gone) before
 
--- of the first rows, n stay and stand in front, in their order; the tags of those that go are in front of the list, in row order,
--- if it has room for them, and the rest of the list is as it was
-pub record Closed {P : Type 0} (goes : Trial P → Bool) (count : ℕ) (held : List (Trial P)) (list : List ℕ) (n : ℕ) (held' : List (Trial P)) (list' : List ℕ) : Type 0 where
-  pub fewer : n ≤ count
-  pub stay : take n held' ≡ filter (λ r. not (goes r)) (take count held)
-  pub tags : count - n ≤ length list → take (count - n) list' ≡ map (λ r. r.tag) (filter goes (take count held))
-  pub rest : drop (count - n) list' ≡ drop (count - n) list
+-- of these rows, n stay and stand in front, in their order; the tags of those that go are in front of the list, in row order, if
+-- it has room for them, and the rest of the list is as it was
+pub record Closed {P : Type 0} (goes : Trial P → Bool) (held : List (Trial P)) (list : List ℕ) (n : ℕ) (held' : List (Trial P)) (list' : List ℕ) : Type 0 where
+  pub fewer : n ≤ length held
+  pub stay : take n held' ≡ filter (λ r. not (goes r)) held
+  pub tags : length held - n ≤ length list → take (length held - n) list' ≡ map (λ r. r.tag) (filter goes held)
+  pub rest : drop (length held - n) list' ≡ drop (length held - n) list
 
 -- the member in one row goes, and the trial enters after the others
 abbrev pub replacing_row : {P : Type 0} → List (Trial P) → ℕ → Trial P → Outcome P
@@ -60,16 +61,16 @@ replacing_row members row t = judged Replaced (take 1 (drop row members)) (remov
 
 -- the rows and the list once a trial had this outcome: the answer and the new count are told, the members are in front, and the
 -- tags of those that went are in front of the list, if it has room for them
-pub record StepRight {P : Type 0} (outcome : Outcome P) (count : ℕ) (held : List (Trial P)) (list : List ℕ) (r : Stepped) (held' : List (Trial P)) (list' : List ℕ) : Type 0 where
-  pub value : r.answer ≡ verdict_of outcome
-  pub counted : r.count ≡ length (members_then (take count held) outcome)
-  pub in_order : take r.count held' ≡ members_then (take count held) outcome
+pub record StepRight {P : Type 0} (outcome : Outcome P) (a : Members P) (list : List ℕ) (r : Result Offered Denial) (b : Members P) (list' : List ℕ) : Type 0 where
+  pub value : r ≡ verdict_of outcome
+  pub counted : b.count ≡ length (members_then (held_by a) outcome)
+  pub in_order : held_by b ≡ members_then (held_by a) outcome
   pub tags : length (gone_of outcome) ≤ length list → TagsInFront (gone_of outcome) list list'
   -- a trial that finds no row alters nothing
-  pub untouched : is_err r.answer ≡ true → (r.count ≡ count) × (held' ≡ held) × (list' ≡ list)
-  -- there are enough rows, as many as before
-  pub fits : r.count ≤ length held
-  pub long : length held' ≡ length held
+  pub untouched : is_err r ≡ true → (b.count ≡ a.count) × (b.rows.now ≡ a.rows.now) × (list' ≡ list)
+  -- these are the same rows, and as many
+  pub long : length b.rows.now ≡ length a.rows.now
+  pub same_rows : b.rows.ghost_name ≡ a.rows.ghost_name
 
 -- what holds of every offer: a is the archive with what it is lent before, r its answer, and b the same after
 pub record OfferRight {P : Type 0} (M : Meaning P) (t : Trial P) (a : Lent P) (r : Result Offered Denial) (b : Lent P) : Type 0 where

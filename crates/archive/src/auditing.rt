@@ -2,26 +2,20 @@
 ghost use Rattle.std.specs.Prelude.{◌≡◌, []};
 ghost use Rattle.history.specs.Auditing.{clash, first_pair};
 ghost use Rattle.archive.specs.Auditing.{AuditRight};
-ghost use Rattle.archive.specs.Deciding.{six_boxes};
 ghost use Rattle.archive.specs.Lent.{lending};
 
-use crate::boxing::{compare, six_boxes};
+use crate::boxing::Boxed;
 use crate::holding::Archive;
 use history::Denial;
 use space::{Space, Trial};
 
-// Whether the box of a row, which has these numbers, or another row's equals or dominates the other.
-fn clashes<S: Space>(
-    space: &S,
-    row: &Trial<S::Point>,
-    boxes: &[u32; 6],
-    other: &Trial<S::Point>,
-) -> bool
-    requires { boxes.now ≡ six_boxes (S.Space.meaning space.now) row.now.point }
-    ensures { result ≡ clash (S.Space.meaning space.now) row.now other.now }
-{
-    let compared = compare(space, boxes, &other.point);
-    compared.over || compared.under
+impl<S: Space> Boxed<'_, S> {
+    // Whether this trial's box or that of another equals or dominates the other.
+    fn clashes(&self, other: &Trial<S::Point>) -> bool
+        ensures { result ≡ clash (S.Space.meaning self.now.space.now) self.now.trial other.now }
+    {
+        self.compare(&other.point).is_some()
+    }
 }
 
 // The first pair of rows at fault: the lowest row, and with it the lowest one from it on.
@@ -29,14 +23,15 @@ fn first_fault<S: Space>(space: &S, members: &[Trial<S::Point>]) -> Option<(usiz
     ensures { result ≡ first_pair (S.Space.meaning space.now) members.now }
 {
     let mut found = None;
-    'rows: for i in 0..members.len() {
-        if !space.admits(&members[i].point) {
+    'rows: for (i, row) in members.iter().enumerate() {
+        if !space.admits(&row.point) {
             found = Some((i, i));
             break 'rows;
         }
-        let boxes = six_boxes(space, &members[i].point);
+        let boxed = Boxed::new(space, *row);
+        // by its place, since that place is answered
         for j in i + 1..members.len() {
-            if clashes(space, &members[i], &boxes, &members[j]) {
+            if boxed.clashes(&members[j]) {
                 found = Some((i, j));
                 break 'rows;
             }

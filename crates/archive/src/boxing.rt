@@ -1,46 +1,56 @@
-// The box of a point, and how the boxes of two points compare.
+// The box of a trial, and how it compares with the boxes of others.
 ghost use Rattle.std.specs.Prelude.{◌≡◌};
 ghost use Rattle.history.specs.Comparing.{dominates};
-ghost use Rattle.archive.specs.Deciding.{six_boxes, Compares};
+ghost use Rattle.archive.specs.Deciding.{box_order, six_boxes};
 
-use space::Space;
+use space::{Space, Trial};
+use std::array;
+use std::cmp::Ordering;
 
-// The box numbers of a point, in six objectives.
-pub(crate) fn six_boxes<S: Space>(space: &S, p: &S::Point) -> [u32; 6]
-    ensures { result ≡ six_boxes (S.Space.meaning space.now) p.now }
-{
-    let mut boxes = [0; 6];
-    for i in 0..6 {
-        boxes[i] = space.box_number(i, p);
-    }
-    boxes
+// A trial of a space with its box numbers in six objectives, which are asked once.
+#[derive(Drop)]
+pub(crate) struct Boxed<'a, S: Space> {
+    pub space: &'a S,
+    pub trial: Trial<S::Point>,
+    numbers: [u32; 6],
+    ghost asked: { numbers ≡ six_boxes (S.Space.meaning space.now) trial.point },
 }
 
-// How one box compares with another: whether it is at least as great in every objective, and whether the other is.
-#[derive(Clone, Copy)]
-pub(crate) struct Compared {
-    pub over: bool,
-    pub under: bool,
-}
-
-// How the box with these numbers compares with the box of q, whose numbers are asked one by one until nothing is open.
-pub(crate) fn compare<S: Space>(space: &S, boxes: &[u32; 6], q: &S::Point) -> Compared
-    ensures { Compares (S.Space.meaning space.now) boxes.now q.now result }
-{
-    let mut over = true;
-    let mut under = true;
-    for i in 0..space.objectives() {
-        let theirs = space.box_number(i, q);
-        over &= theirs <= boxes[i];
-        under &= boxes[i] <= theirs;
-        if !over && !under {
-            return Compared {
-                over: false,
-                under: false,
-            };
+impl<'a, S: Space> Boxed<'a, S> {
+    pub(crate) fn new(space: &'a S, trial: Trial<S::Point>) -> Boxed<'a, S>
+        ensures { (result.space.now ≡ space.now) × (result.trial ≡ trial) }
+    {
+        let numbers = array::from_fn(|i| space.box_number(i, &trial.point));
+        Boxed {
+            space,
+            trial,
+            numbers,
         }
     }
-    Compared { over, under }
+
+    // How this trial's box compares with the box of q: the greater one is at least as great in every objective. The numbers of
+    // the other box are asked one by one until nothing is open.
+    pub(crate) fn compare(&self, q: &S::Point) -> Option<Ordering>
+        ensures { result ≡ box_order (S.Space.meaning self.now.space.now) self.now.trial.point q.now }
+    {
+        let mut over = true;
+        let mut under = true;
+        for i in 0..self.space.objectives() {
+            let mine = self.numbers[i];
+            let theirs = self.space.box_number(i, q);
+            over &= theirs <= mine;
+            under &= mine <= theirs;
+            if !over && !under {
+                return None;
+            }
+        }
+        match (over, under) {
+            (true, true) => Some(Ordering::Equal),
+            (true, false) => Some(Ordering::Greater),
+            (false, true) => Some(Ordering::Less),
+            (false, false) => None,
+        }
+    }
 }
 
 // Whether p dominates q.

@@ -1,9 +1,10 @@
 // What is to be done with a trial.
 ghost use Rattle.std.specs.Prelude.{◌≡◌};
-ghost use Rattle.archive.specs.Deciding.{six_boxes, class, decision, joined_by};
+ghost use Rattle.archive.specs.Deciding.{class, decision, joined_by};
 
-use crate::boxing::{compare, dominates};
+use crate::boxing::{Boxed, dominates};
 use space::{Space, Trial};
+use std::cmp::Ordering;
 
 // The first of the four steps of an offer that applies.
 #[derive(Clone, Copy)]
@@ -31,31 +32,6 @@ pub(crate) enum Class {
     Apart,
 }
 
-// What this member is to the trial, whose box has these numbers.
-pub(crate) fn classify<S: Space>(
-    space: &S,
-    trial: &Trial<S::Point>,
-    boxes: &[u32; 6],
-    member: &Trial<S::Point>,
-) -> Class
-    requires { boxes.now ≡ six_boxes (S.Space.meaning space.now) trial.now.point }
-    ensures { result ≡ class (S.Space.meaning space.now) trial.now member.now }
-{
-    let compared = compare(space, boxes, &member.point);
-    if !compared.under {
-        return if compared.over {
-            Class::Below
-        } else {
-            Class::Apart
-        };
-    }
-    if compared.over && dominates(space, &trial.point, &member.point) {
-        Class::Beaten
-    } else {
-        Class::Shuts
-    }
-}
-
 // The decision over some members and one more, in the row after them, where no box among them is dominated.
 fn join(former: Decision, added: Class, row: usize) -> Decision
     ensures { result ≡ joined_by former added row }
@@ -74,23 +50,33 @@ fn join(former: Decision, added: Class, row: usize) -> Decision
     }
 }
 
-// What is to be done with the trial, whose box has these numbers, by one pass over the members. It ends at the first
-// whose box is dominated, since all the others are then looked at again.
-pub(crate) fn decide<S: Space>(
-    space: &S,
-    trial: &Trial<S::Point>,
-    boxes: &[u32; 6],
-    members: &[Trial<S::Point>],
-) -> Decision
-    requires { boxes.now ≡ six_boxes (S.Space.meaning space.now) trial.now.point }
-    ensures { result ≡ decision (S.Space.meaning space.now) members.now trial.now }
-{
-    let mut decision = Decision::Enter;
-    for (i, member) in members.iter().enumerate() {
-        decision = join(decision, classify(space, trial, boxes, member), i);
-        if let Decision::Displace = decision {
-            return decision;
+impl<S: Space> Boxed<'_, S> {
+    // What this member is to the trial.
+    pub(crate) fn classify(&self, member: &Trial<S::Point>) -> Class
+        ensures { result ≡ class (S.Space.meaning self.now.space.now) self.now.trial member.now }
+    {
+        match self.compare(&member.point) {
+            None => Class::Apart,
+            Some(Ordering::Greater) => Class::Below,
+            Some(Ordering::Equal) if dominates(self.space, &self.trial.point, &member.point) => {
+                Class::Beaten
+            }
+            Some(_) => Class::Shuts,
         }
     }
-    decision
+
+    // What is to be done with the trial, by one pass over the members. It ends at the first whose box is dominated, since all
+    // the others are then looked at again.
+    pub(crate) fn decide(&self, members: &[Trial<S::Point>]) -> Decision
+        ensures { result ≡ decision (S.Space.meaning self.now.space.now) members.now self.now.trial }
+    {
+        let mut decision = Decision::Enter;
+        for (i, member) in members.iter().enumerate() {
+            decision = join(decision, self.classify(member), i);
+            if let Decision::Displace = decision {
+                return decision;
+            }
+        }
+        decision
+    }
 }

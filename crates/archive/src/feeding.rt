@@ -6,48 +6,35 @@ ghost use Rattle.history.specs.BlockTrials.{trials_of};
 ghost use Rattle.archive.specs.Feeding.{FeedRight, TakenRight, TriedRight};
 ghost use Rattle.archive.specs.Lent.{lending};
 
+use crate::boxing::Boxed;
 use crate::holding::Archive;
-use crate::offering::{Stepped, step};
+use crate::members::Members;
 use crate::summing::one_fed;
-use history::{Denial, Fed, FeedFault};
+use history::{Denial, Fed, FeedFault, Offered};
 use log_block::{Placed, Record, Records, check};
 use space::{Recorded, Space, Trial, read_or_blank};
-
-// What some trials of a block came to, and how many of the first rows hold members then.
-#[derive(Clone, Copy)]
-pub(crate) struct Taken {
-    pub fed: Fed,
-    pub count: usize,
-}
 
 // A trial of a block: it is denied off the grid, and else judged. There is no list for the tags of those that go.
 fn try_trial<S: Space>(
     space: &S,
     trial: Trial<S::Point>,
-    count: usize,
-    rows: &mut [Trial<S::Point>],
-) -> Stepped
-    requires { count ≤ length rows.old }
-    ensures { TriedRight (S.Space.meaning space.now) trial count rows.old result rows.new }
+    members: &mut Members<'_, S::Point>,
+) -> Result<Offered, Denial>
+    ensures { TriedRight (S.Space.meaning space.now) trial members.old result members.new }
 {
     if !space.admits(&trial.point) {
-        return Stepped {
-            answer: Err(Denial::OffGrid),
-            count,
-        };
+        return Err(Denial::OffGrid);
     }
-    step(space, trial, count, rows, &mut [])
+    Boxed::new(space, trial).step(members, &mut [])
 }
 
 // A record of a block: a note is skipped, and a trial is tried.
 fn take_record<S: Recorded>(
     space: &S,
     placed: Placed<'_>,
-    count: usize,
-    rows: &mut [Trial<S::Point>],
-) -> Taken
-    requires { count ≤ length rows.old }
-    ensures { TakenRight (S.Space.meaning space.now) (trials_of (read_point (S.Recorded.recording space.now)) (seen_at placed.entry ∷ [])) count rows.old result rows.new }
+    members: &mut Members<'_, S::Point>,
+) -> Fed
+    ensures { TakenRight (S.Space.meaning space.now) (trials_of (read_point (S.Recorded.recording space.now)) (seen_at placed.entry ∷ [])) members.old result members.new }
 {
     match placed.record {
         Record::Trial { tag, point } => {
@@ -55,16 +42,9 @@ fn take_record<S: Recorded>(
                 point: read_or_blank(space, point),
                 tag,
             };
-            let tried = try_trial(space, trial, count, rows);
-            Taken {
-                fed: one_fed(placed.place, tried.answer),
-                count: tried.count,
-            }
+            one_fed(placed.place, try_trial(space, trial, members))
         }
-        Record::Note(_) => Taken {
-            fed: Fed::default(),
-            count,
-        },
+        Record::Note(_) => Fed::default(),
     }
 }
 
@@ -72,26 +52,17 @@ fn take_record<S: Recorded>(
 fn take_records<S: Recorded>(
     space: &S,
     records: Records<'_>,
-    count: usize,
-    rows: &mut [Trial<S::Point>],
-) -> Taken
-    requires known { count ≤ 4096 }
-    requires within { count ≤ length rows.old }
+    members: &mut Members<'_, S::Point>,
+) -> Fed
+    requires known { members.old.count ≤ 4096 }
     requires few { length (left_to_read records) ≤ 255 }
-    ensures { TakenRight (S.Space.meaning space.now) (trials_of (read_point (S.Recorded.recording space.now)) (left_to_read records.entry)) count rows.old result rows.new }
+    ensures { TakenRight (S.Space.meaning space.now) (trials_of (read_point (S.Recorded.recording space.now)) (left_to_read records.entry)) members.old result members.new }
 {
-    let mut taken = Taken {
-        fed: Fed::default(),
-        count,
-    };
+    let mut fed = Fed::default();
     for placed in records {
-        let next = take_record(space, placed, taken.count, rows);
-        taken = Taken {
-            fed: taken.fed.saturating_add(next.fed),
-            count: next.count,
-        };
+        fed = fed.saturating_add(take_record(space, placed, members));
     }
-    taken
+    fed
 }
 
 impl<S: Recorded> Archive<S> {
@@ -104,9 +75,13 @@ impl<S: Recorded> Archive<S> {
             return Err(FeedFault::StrangeRows);
         }
         let records = check(block, self.space.objectives() as u8)?;
-        let taken = take_records(&self.space, records, self.count, rows);
-        self.count = taken.count;
-        Ok(taken.fed)
+        let mut members = Members {
+            rows,
+            count: self.count,
+        };
+        let fed = take_records(&self.space, records, &mut members);
+        self.count = members.count;
+        Ok(fed)
     }
 
     // Offers the trials of a block of a log, in order, to the archive over its own rows. The whole block is checked before; a

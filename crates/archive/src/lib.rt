@@ -11,6 +11,7 @@ mod feeding;
 mod holding;
 mod listing;
 mod making;
+mod members;
 mod needing;
 mod offering;
 mod restoring;

@@ -6,10 +6,10 @@ use Rattle.archive.proofs.feeding.take_record.Goals as goal
 
 pub returns-in-Trial : goal.returns-in-Trial
 returns-in-Trial g c =
-    record_tried (g.S.Space.meaning c.args.space.now) (read_point (g.S.Recorded.recording c.args.space.now)) c.args.placed.place c.args.count (seen c.args.placed.record) c.args.rows.now c.one_fed.result
-    c.in-Trial.tag c.in-Trial.point.now c.read_or_blank.result c.try_trial-tried.new.rows c.try_trial-tried.result (ap seen c.in-Trial.is) c.read_or_blank.ensures.value c.one_fed.ensures c.try_trial-tried.ensures
+    record_tried (g.S.Space.meaning c.args.space.now) (read_point (g.S.Recorded.recording c.args.space.now)) c.args.placed.place (seen c.args.placed.record) c.args.members.now c.one_fed.result
+    c.in-Trial.tag c.in-Trial.point.now c.read_or_blank.result c.try_trial.result c.try_trial.new.members (ap seen c.in-Trial.is) c.read_or_blank.ensures.value c.one_fed.ensures c.try_trial.ensures
 
 pub returns-in-Note : goal.returns-in-Note
 returns-in-Note g c =
-    record_skipped (g.S.Space.meaning c.args.space.now) (read_point (g.S.Recorded.recording c.args.space.now)) c.args.placed.place c.args.count (seen c.args.placed.record) c.args.rows.now c.default.result
-    c.in-Note.field-0.now (ap seen c.in-Note.is) (search rules) c.requires
+    record_skipped (g.S.Space.meaning c.args.space.now) (read_point (g.S.Recorded.recording c.args.space.now)) c.args.placed.place (seen c.args.placed.record) c.args.members.now c.default.result
+    c.in-Note.field-0.now (ap seen c.in-Note.is) (search rules)

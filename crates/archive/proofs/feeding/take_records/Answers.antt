@@ -9,12 +9,12 @@ pub loop-placed-preserved : goal.loop-placed-preserved
 loop-placed-preserved g c =
     let reads = read_point (g.S.Recorded.recording c.args.space.now) in
     let all = left_to_read c.args.records in
-    going_record (g.S.Space.meaning c.args.space.now) reads (trials_of reads all) c.args.count c.args.rows.now
-    (left_to_read c.loop-placed.placed-iterator) (left_to_read c.next.new.self) (seen_at c.in-Some.placed) c.loop-placed.taken c.take_record-next.result c.saturating_add.result c.loop-placed.rows c.take_record-next.new.rows
-    c.requires.known (omega (arith, trials_few reads all, c.requires.few)) c.in-Some.ensures.steps c.saturating_add.ensures c.loop-placed.invariant c.take_record-next.ensures
+    going_record (g.S.Space.meaning c.args.space.now) reads (trials_of reads all) c.args.members.now
+    (left_to_read c.loop-placed.placed-iterator) (left_to_read c.next.new.self) (seen_at c.in-Some.placed) c.loop-placed.fed c.take_record.result c.saturating_add-fed.result c.loop-placed.members c.take_record.new.members
+    c.requires.known (omega (arith, trials_few reads all, c.requires.few)) c.in-Some.ensures.steps c.saturating_add-fed.ensures c.loop-placed.invariant c.take_record.ensures
 
 pub returns : goal.returns
 returns g c =
     let reads = read_point (g.S.Recorded.recording c.args.space.now) in
-    going_records (g.S.Space.meaning c.args.space.now) reads (trials_of reads (left_to_read c.args.records)) c.args.count c.args.rows.now
-    (left_to_read c.loop-placed.placed-iterator) c.loop-placed.taken c.loop-placed.rows c.in-None.ensures.steps.0 c.loop-placed.invariant
+    going_records (g.S.Space.meaning c.args.space.now) reads (trials_of reads (left_to_read c.args.records)) c.args.members.now
+    (left_to_read c.loop-placed.placed-iterator) c.loop-placed.fed c.loop-placed.members c.in-None.ensures.steps.0 c.loop-placed.invariant

@@ -7,4 +7,4 @@ use Rattle.archive.proofs.feeding.take_records.Given as goal
 abbrev pub invariant-loop-placed : goal.invariant-loop-placed
 invariant-loop-placed g l =
     let reads = read_point (g.S.Recorded.recording l.space) in
-    Going (g.S.Space.meaning l.space) (trials_of reads (left_to_read l.fn.records)) l.fn.count l.initial.rows (trials_of reads (left_to_read l.placed-iterator)) l.taken l.rows
+    Going (g.S.Space.meaning l.space) (trials_of reads (left_to_read l.fn.records)) l.initial.members (trials_of reads (left_to_read l.placed-iterator)) l.fed l.members

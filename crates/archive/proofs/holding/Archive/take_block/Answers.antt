@@ -1,4 +1,4 @@
-use Rattle.std.proofs.Common.{[], arith, sym, ap, ◌∙◌, subst}
+use Rattle.std.proofs.Common.{[], arith, sym, refl, ap, ◌∙◌, subst, rules}
 use Rattle.history.specs.declared.faults.FeedFault.TheVariants.{StrangeRows}
 use Rattle.space.specs.Recording.{read_point}
 use Rattle.log_block.specs.Reading.{left_to_read}
@@ -29,8 +29,8 @@ returns-in_err-records-clause-right g c =
     subst (λ r. FeedRight M reads c.args.block.now a r a) (sym (refused_as _ _ c.from_residual.ensures))
     (refused_right M reads c.args.block.now a (g.met.S.Space.lawful self.space) (from_log c.in_err-records.field-0.0) fault)
 
-pub take_records-taken-requires-clause-few : goal.take_records-taken-requires-clause-few
-take_records-taken-requires-clause-few g c =
+pub take_records-fed-requires-clause-few : goal.take_records-fed-requires-clause-few
+take_records-fed-requires-clause-few g c =
     omega (arith, checked_few c.objectives.result c.args.block.now (left_to_read c.in_ok-records.records) c.in_ok-records.ensures, c.type_inv.block 1)
 
 pub returns-clause-right : goal.returns-clause-right
@@ -39,5 +39,5 @@ returns-clause-right g c =
     let M = g.S.Space.meaning self.space in
     let reads = read_point (g.S.Recorded.recording self.space) in
     let a = lending self c.args.rows.now [] in
-    taken_right M reads c.args.block.now a (g.met.S.Space.lawful self.space) (trials_of reads (left_to_read c.in_ok-records.records)) c.take_records-taken.result c.take_records-taken.new.rows c.if-rows-self.false
-    (records_fed M reads c.args.block.now a c.if-rows-self.false (left_to_read c.in_ok-records.records) (ap (λ m. checked m c.args.block.now) (sym c.objectives.ensures) ∙ c.in_ok-records.ensures)) c.take_records-taken.ensures
+    taken_right M reads c.args.block.now a (g.met.S.Space.lawful self.space) (trials_of reads (left_to_read c.in_ok-records.records)) c.take_records-fed.result _ c.take_records-fed.new.members _ (search rules) refl refl c.if-rows-self.false
+    (records_fed M reads c.args.block.now a c.if-rows-self.false (left_to_read c.in_ok-records.records) (ap (λ m. checked m c.args.block.now) (sym c.objectives.ensures) ∙ c.in_ok-records.ensures)) c.take_records-fed.ensures

@@ -1,4 +1,4 @@
-use Rattle.std.proofs.Common.{sym, refl, ◌∙◌}
+use Rattle.std.proofs.Common.{sym, refl, ◌∙◌, rules}
 use Rattle.history.specs.declared.denials.Denial.TheVariants.{StrangeRows, ShortList, OffGrid}
 use Rattle.archive.specs.Lent.{lending}
 use Rattle.archive.proofs.Offers.{strange_rows, short_list, off_grid, passes, denied_right, judged_right}
@@ -44,7 +44,8 @@ returns g c =
     let t = c.args.trial in
     let a = lending self c.args.rows.now c.args.displaced.now in
     let passed = passes M t a c.if-rows-self.false c.if-displaced-self.false (sym c.admits.ensures ∙ c.if-not-admits.false) in
+    let stepped = rw (c.new.ensures.0, c.new.ensures.1) at c.step-answer.ensures in
     record {
       space = refl;
-      right = judged_right M t a (g.met.S.Space.lawful self.space) c.step-stepped.result c.step-stepped.new.rows c.step-stepped.new.displaced c.if-rows-self.false c.if-displaced-self.false passed c.step-stepped.ensures;
+      right = judged_right M t a (g.met.S.Space.lawful self.space) c.step-answer.result _ c.step-answer.new.members _ c.step-answer.new.displaced (search rules) refl refl c.if-rows-self.false c.if-displaced-self.false passed stepped;
     }
