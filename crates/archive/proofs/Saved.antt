@@ -1,8 +1,10 @@
 -- What holds of a save, by its checks and by the part of the members that is written.
-use Rattle.std.proofs.Common.{◌≡◌, ℕ, ◌+◌, ◌-◌, ◌*◌, ◌/◌, ◌<◌, ◌≤◌, min, true, false, cond, not, eqb, leb, List, map, length, take, drop, is_ok, Ok, Err, Result, sym, refl, ap, ◌∙◌, le-div_iff_mul-le, le-leb, length-drop, length-take, arith}
-use native.Mathlib.Nat.{div-le_self}
+use Rattle.std.proofs.Common.{◌≡◌, ℕ, ◌+◌, ◌-◌, ◌*◌, ◌/◌, ◌%◌, ◌<◌, ◌≤◌, min, max, true, false, cond, not, eqb, leb, List, map, length, take, drop, is_ok, Ok, Err, Result, sym, refl, ap, ◌∙◌, le-div_iff_mul-le, le-leb, length-drop, length-take, arith}
+use native.Mathlib.Nat.{div-le_self, zero-div}
+use Rattle.std.specs.Int.{div_ceil}
+use Rattle.std.proofs.lemmas.Grind.{div_ceil_times}
 use Rattle.std.proofs.lemmas.List.{take_all}
-use Rattle.std.proofs.lemmas.Bool.{false≢true, cond_both, cond-true, cond-false, eq-eqb, lt-leb, ne_eqb, not_from_false, not_from_true}
+use Rattle.std.proofs.lemmas.Bool.{false≢true, cond_both, cond-true, cond-false, eq-eqb, eqb-false, eqb-true, lt-leb, ne_eqb, not_from_false, not_from_true}
 use Rattle.space.specs.Meaning.{Meaning, Lawful}
 use Rattle.space.specs.Recording.{Recording, WritableIfAdmitted}
 use Rattle.space.specs.declared.tagged.Trial.{Trial}
@@ -37,6 +39,19 @@ some_per_block M L = (
   (le-div_iff_mul-le {k = 6 + 4 * M.objectives} {x = 1} {y = 500} (omega arith)).1 (omega (arith, L.few.1)),
   div-le_self 500 (6 + 4 * M.objectives),
 )
+
+-- so many blocks, by a division that rounds up
+pub rounded_up : (q n : ℕ) → 1 ≤ q → max (div_ceil n q) 1 ≡ block_count q n
+rounded_up q n one =
+    let d = n / q + min 1 (n % q) in
+    let m = (n + (q - 1)) / q in
+    let times = div_ceil_times n q one in
+    let least = (le-div_iff_mul-le {k = q} {x = d} {y = n + (q - 1)} one).1 (omega (arith, times.1)) in
+    let most : d + 1 ≤ m → ⊥ = λ h. let far = (le-div_iff_mul-le {k = q} {x = d + 1} {y = n + (q - 1)} one).0 h in omega (arith, far, times.0) in
+    let same : d ≡ m = omega (arith, least, most) in
+    cond_both (eqb n 0) 1 m (λ b. max d 1 ≡ b)
+    (λ e. let z : n ≡ 0 = eqb-true n 0 e in let none = zero-div q in rw z (omega (arith, none)))
+    (λ e. let full = eqb-false n 0 e in let some = (le-div_iff_mul-le {k = q} {x = 1} {y = n + (q - 1)} one).1 (omega arith) in omega (arith, same, some))
 
 -- a block that there is begins with a member, or it is the only one
 pub block_begins : (q n number : ℕ) → 1 ≤ q → number < block_count q n → number * q ≤ n

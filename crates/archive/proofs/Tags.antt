@@ -8,15 +8,16 @@ abbrev pub tags_of : {P : Type 0} → List (Trial P) → List ℕ
 tags_of ms = map (λ r. r.tag) ms
 
 module _ {P : Type 0} (ms : List (Trial P)) (before : List ℕ) (room : length ms ≤ length before) where
-  pub tags_more : (tags : List ℕ) (i : ℕ) (d : Trial P) → i < length ms → tags ≡ tags_of (take i ms) ++ drop i before → set tags i (get_or ms i d).tag ≡ tags_of (take (i + 1) ms) ++ drop (i + 1) before
-  tags_more tags i d l e =
+  pub tags_more : (tags : List ℕ) (i : ℕ) (d : Trial P) → i < length ms → d ≡ get_or ms i d → tags ≡ tags_of (take i ms) ++ drop i before → set tags i d.tag ≡ tags_of (take (i + 1) ms) ++ drop (i + 1) before
+  tags_more tags i d l read e =
       let x = (get_or ms i d).tag in
       let front = tags_of (take i ms) in
       let long : length front ≡ i = length-map (take i ms) (λ r. r.tag) ∙ length-take-le i ms (omega arith) in
       let split : tags ≡ front ++ get_or before i 0 ∷ drop (i + 1) before = e ∙ ap (λ xs. front ++ xs) (drop_more before i 0 (omega arith)) in
-      ap (λ xs. set xs i x) split
+      ap (λ t. set tags i t.tag) read
+      ∙ (ap (λ xs. set xs i x) split
       ∙ (set_at front (get_or before i 0) (drop (i + 1) before) x i long
-      ∙ (sym (append_assoc front (x ∷ []) (drop (i + 1) before)) ∙ ap (λ xs. xs ++ drop (i + 1) before) (sym (map_more (λ r. r.tag) ms i d l))))
+      ∙ (sym (append_assoc front (x ∷ []) (drop (i + 1) before)) ∙ ap (λ xs. xs ++ drop (i + 1) before) (sym (map_more (λ r. r.tag) ms i d l)))))
 
   pub tags_all : (tags : List ℕ) (i : ℕ) → length ms ≤ i → i ≤ length ms → tags ≡ tags_of (take i ms) ++ drop i before → tags ≡ tags_of ms ++ drop (length ms) before
   tags_all tags i l h e =

@@ -12,8 +12,9 @@ fn write_tags<P: Copy>(members: &[Trial<P>], tags: &mut [u32])
     requires { length members.now ≤ length tags.old }
     ensures { tags.new ≡ map (λ r. r.tag) members.now ++ drop (length members.now) tags.old }
 {
-    for i in 0..members.len() {
-        tags[i] = members[i].tag;
+    // by place in the list: what is written through a zipped `iter_mut` is not known afterwards
+    for (i, member) in members.iter().enumerate() {
+        tags[i] = member.tag;
     }
 }
 

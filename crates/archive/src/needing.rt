@@ -20,6 +20,7 @@ fn first_largest<S: Space>(space: &S, n: usize) -> usize
     ensures { result ≡ first_largest (S.Space.meaning space.now) n }
 {
     let mut largest = 0;
+    // by a loop: of a `fold` over a range the proof does not learn what it came to
     for k in 0..n {
         largest = larger(space, largest, k);
     }
@@ -44,6 +45,7 @@ fn product_but<S: Space>(space: &S, out: usize, n: usize) -> u64
     ensures { result ≡ product_but (S.Space.meaning space.now) out n }
 {
     let mut product = 1;
+    // by a loop: that the `product` of a chain fits its type is not proved
     for k in 0..n {
         product = times(space, product, out, k);
     }

@@ -14,63 +14,79 @@ use history::Denial;
 use log_block::{TrialBytes, write};
 use space::{Recorded, Trial, point_bytes};
 
-// How many trials a block has room for.
-fn per_block<S: Recorded>(space: &S) -> usize
-    ensures value { result ≡ per_block (S.Space.meaning space.now) }
-    ensures four_each { FourEach (S.Space.meaning space.now) (S.Recorded.recording space.now) }
-{
-    500 / (6 + space.width())
+// How the members of a space are laid out in blocks, and for how many a block has room.
+#[derive(Drop)]
+struct Layout<'a, S: Recorded> {
+    space: &'a S,
+    room: usize,
+    ghost fits: { room ≡ per_block (S.Space.meaning space.now) },
+    ghost four_each: { FourEach (S.Space.meaning space.now) (S.Recorded.recording space.now) },
 }
 
-// How many blocks so many members fill, at so many to a block: one if there is no member.
-fn block_count(per_block: usize, count: usize) -> usize
-    requires { (1 ≤ per_block) × (per_block ≤ 500) × (count ≤ 4096) }
-    ensures { result ≡ block_count per_block count }
-{
-    if count == 0 {
-        1
-    } else {
-        (count + (per_block - 1)) / per_block
+impl<'a, S: Recorded> Layout<'a, S> {
+    fn new(space: &'a S) -> Layout<'a, S>
+        ensures { result.space.now ≡ space.now }
+    {
+        Layout {
+            space,
+            room: 500 / (6 + space.width()),
+        }
     }
-}
 
-// The members of one block, at so many to a block.
-fn part<P: Copy>(members: &[Trial<P>], per_block: usize, number: usize) -> &[Trial<P>]
-    requires { number * per_block ≤ length members.now }
-    ensures { result.now ≡ part per_block members.now number }
-{
-    let (_, rest) = members.split_at(number * per_block);
-    let (part, _) = rest.split_at(per_block.min(rest.len()));
-    part
-}
-
-// A trial as bytes.
-fn trial_bytes<S: Recorded>(space: &S, trial: &Trial<S::Point>) -> TrialBytes
-    requires { FourEach (S.Space.meaning space.now) (S.Recorded.recording space.now) }
-    ensures value { trial_item (S.Space.meaning space.now).objectives result ≡ item_for (S.Recorded.recording space.now) trial.now }
-    ensures writable { WritableIfAdmitted (S.Space.meaning space.now) (S.Recorded.recording space.now) trial.now.point }
-{
-    TrialBytes {
-        tag: trial.tag,
-        point: point_bytes(space, &trial.point),
+    // How many blocks so many members fill: one if there is no member.
+    fn block_count(&self, count: usize) -> usize
+        ensures { result ≡ block_count (per_block (S.Space.meaning self.now.space.now)) count }
+    {
+        count.div_ceil(self.room).max(1)
     }
-}
 
-// Some trials as bytes, in front: no block has room for more than fifty.
-fn part_bytes<S: Recorded>(space: &S, part: &[Trial<S::Point>]) -> [TrialBytes; 50]
-    requires four_each { FourEach (S.Space.meaning space.now) (S.Recorded.recording space.now) }
-    requires few { length part.now ≤ 50 }
-    ensures value { map (trial_item (S.Space.meaning space.now).objectives) (take (length part.now) result) ≡ map (item_for (S.Recorded.recording space.now)) part.now }
-    ensures writable { EachIn part.now (λ r. WritableIfAdmitted (S.Space.meaning space.now) (S.Recorded.recording space.now) r.point) }
-{
-    let mut bytes = [TrialBytes {
-        tag: 0,
-        point: [0; 24],
-    }; 50];
-    for i in 0..part.len() {
-        bytes[i] = trial_bytes(space, &part[i]);
+    // The members of one block.
+    fn part<'m>(&self, members: &'m [Trial<S::Point>], number: usize) -> &'m [Trial<S::Point>]
+        requires { number * self.now.room ≤ length members.now }
+        ensures { result.now ≡ part (per_block (S.Space.meaning self.now.space.now)) members.now number }
+    {
+        let rest = &members[number * self.room..];
+        &rest[..self.room.min(rest.len())]
     }
-    bytes
+
+    // A trial as bytes.
+    fn trial_bytes(&self, trial: &Trial<S::Point>) -> TrialBytes
+        ensures value { trial_item (S.Space.meaning self.now.space.now).objectives result ≡ item_for (S.Recorded.recording self.now.space.now) trial.now }
+        ensures writable { WritableIfAdmitted (S.Space.meaning self.now.space.now) (S.Recorded.recording self.now.space.now) trial.now.point }
+    {
+        TrialBytes {
+            tag: trial.tag,
+            point: point_bytes(self.space, &trial.point),
+        }
+    }
+
+    // Some trials as bytes, in front: no block has room for more than fifty.
+    fn part_bytes(&self, part: &[Trial<S::Point>]) -> [TrialBytes; 50]
+        requires { length part.now ≤ 50 }
+        ensures value { map (trial_item (S.Space.meaning self.now.space.now).objectives) (take (length part.now) result) ≡ map (item_for (S.Recorded.recording self.now.space.now)) part.now }
+        ensures writable { EachIn part.now (λ r. WritableIfAdmitted (S.Space.meaning self.now.space.now) (S.Recorded.recording self.now.space.now) r.point) }
+    {
+        let mut bytes = [TrialBytes {
+            tag: 0,
+            point: [0; 24],
+        }; 50];
+        for (i, trial) in part.iter().enumerate() {
+            bytes[i] = self.trial_bytes(trial);
+        }
+        bytes
+    }
+
+    // Writes these trials, for which there is room, over the whole of a block.
+    fn write_part(&self, part: &[Trial<S::Point>], number: usize, block: &mut [u8])
+        requires few { length part.now ≤ per_block (S.Space.meaning self.now.space.now) }
+        requires fits { (number < 2 ^ 32) × (length block.old ≡ 512) }
+        ensures after { block.new ≡ block_of (S.Space.meaning self.now.space.now).objectives number (map (item_for (S.Recorded.recording self.now.space.now)) part.now) }
+        ensures writable { EachIn part.now (λ r. WritableIfAdmitted (S.Space.meaning self.now.space.now) (S.Recorded.recording self.now.space.now) r.point) }
+    {
+        let bytes = self.part_bytes(part);
+        let (trials, _) = bytes.split_at(part.len());
+        write_trials(block, self.space.objectives() as u8, number, trials);
+    }
 }
 
 // Writes these trials over the whole of a block, as far as it has room for them.
@@ -81,25 +97,12 @@ fn write_trials(block: &mut [u8], objectives: u8, number: usize, trials: &[Trial
     let _ = write(block, objectives, number as u32, trials);
 }
 
-// Writes these trials, for which there is room, over the whole of a block.
-fn write_part<S: Recorded>(space: &S, part: &[Trial<S::Point>], number: usize, block: &mut [u8])
-    requires four_each { FourEach (S.Space.meaning space.now) (S.Recorded.recording space.now) }
-    requires few { length part.now ≤ per_block (S.Space.meaning space.now) }
-    requires fits { (number < 2 ^ 32) × (length block.old ≡ 512) }
-    ensures after { block.new ≡ block_of (S.Space.meaning space.now).objectives number (map (item_for (S.Recorded.recording space.now)) part.now) }
-    ensures writable { EachIn part.now (λ r. WritableIfAdmitted (S.Space.meaning space.now) (S.Recorded.recording space.now) r.point) }
-{
-    let bytes = part_bytes(space, part);
-    let (trials, _) = bytes.split_at(part.len());
-    write_trials(block, space.objectives() as u8, number, trials);
-}
-
 impl<S: Recorded> Archive<S> {
     // How many blocks the members are saved as: as many as they fill, and one if there is no member.
     pub fn blocks(&self) -> usize
         ensures { (held : List (TrialOf S.Point)) → result ≡ blocks_of (S.Space.meaning self.now.space) (lending self.now held []) }
     {
-        block_count(per_block(&self.space), self.count)
+        Layout::new(&self.space).block_count(self.count)
     }
 
     // The save that `save` hands on, with what holds of it.
@@ -117,12 +120,13 @@ impl<S: Recorded> Archive<S> {
         if block.len() != 512 {
             return Err(Denial::WrongLength);
         }
-        if self.blocks() <= number {
+        let layout = Layout::new(&self.space);
+        if layout.block_count(self.count) <= number {
             return Err(Denial::NoSuchBlock);
         }
         let (members, _) = rows.split_at(self.count);
-        let part = part(members, per_block(&self.space), number);
-        write_part(&self.space, part, number, block);
+        let part = layout.part(members, number);
+        layout.write_part(part, number, block);
         Ok(part.len())
     }
 

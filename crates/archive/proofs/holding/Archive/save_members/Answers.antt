@@ -17,15 +17,15 @@ returns-then-block-ne512 g c =
     let rows = c.args.rows.now in
     save_right _ _ (g.met.S.Space.lawful a.space) _ _ _ _ _ (save_wrong a.rows (length rows) c.args.number (length c.args.block.now) (g.S.Space.meaning a.space) (take a.count rows) c.if-rows-self.false c.if-block-ne512.true) refl nothing_written
 
-pub returns-then-blocks-number : goal.returns-then-blocks-number
-returns-then-blocks-number g c =
+pub returns-then-block_count-number : goal.returns-then-block_count-number
+returns-then-block_count-number g c =
     let a = c.args.self.now in
     let M = g.S.Space.meaning a.space in
     let rows = c.args.rows.now in
     let full : length (take a.count rows) ≡ a.count = length-take-le a.count rows (search rules) in
     save_right _ _ (g.met.S.Space.lawful a.space) _ _ _ _ _
     (save_past a.rows (length rows) c.args.number (length c.args.block.now) M (take a.count rows) c.if-rows-self.false c.if-block-ne512.false
-    (omega (arith, c.blocks-2.ensures [], ap (block_count (per_block M)) full, c.if-blocks-number.true)))
+    (omega (arith, rw c.new-layout.ensures at c.block_count.ensures, ap (block_count (per_block M)) full, c.if-block_count-number.true)))
     refl nothing_written
 
 pub part-part-requires : goal.part-part-requires
@@ -33,8 +33,9 @@ part-part-requires g c =
     let a = c.args.self.now in
     let M = g.S.Space.meaning a.space in
     let some = some_per_block M (g.met.S.Space.lawful a.space) in
-    let begins = block_begins (per_block M) a.count c.args.number some.0 (omega (arith, c.blocks-2.ensures [], c.if-blocks-number.false)) in
-    let same = ap (λ q. c.args.number * q) c.per_block.ensures.value in
+    let begins = block_begins (per_block M) a.count c.args.number some.0 (omega (arith, rw c.new-layout.ensures at c.block_count.ensures, c.if-block_count-number.false)) in
+    let room : c.new-layout.result.room ≡ per_block M = rw c.new-layout.ensures at c.new-layout.result.fits in
+    let same = ap (λ q. c.args.number * q) room in
     omega (arith, same, begins, c.split_at.ensures.front_len)
 
 pub write_part-requires-clause-fits : goal.write_part-requires-clause-fits
@@ -44,7 +45,7 @@ write_part-requires-clause-fits g c =
     let few : a.count ≤ 4096 = search rules in
     let some = some_per_block M (g.met.S.Space.lawful a.space) in
     let blocks = blocks_few (per_block M) a.count some.1 in
-    (omega (arith, c.blocks-2.ensures [], c.if-blocks-number.false), c.if-block-ne512.false)
+    (omega (arith, rw c.new-layout.ensures at c.block_count.ensures, c.if-block_count-number.false), c.if-block-ne512.false)
 
 pub returns : goal.returns
 returns g c =
@@ -54,10 +55,10 @@ returns g c =
     let members = take a.count rows in
     let k = c.args.number in
     let full : length members ≡ a.count = length-take-le a.count rows (search rules) in
-    let written : c.part-part.result.now ≡ part (per_block M) members k = c.part-part.ensures ∙ ap (λ q. part q c.split_at.result.0.now k) c.per_block.ensures.value ∙ ap (λ ms. part (per_block M) ms k) c.split_at.ensures.front in
+    let written : c.part-part.result.now ≡ part (per_block M) members k = (rw c.new-layout.ensures at c.part-part.ensures) ∙ ap (λ ms. part (per_block M) ms k) c.split_at.ensures.front in
     save_right _ _ (g.met.S.Space.lawful a.space) _ _ _ _ _
     (save_granted a.rows (length rows) k (length c.args.block.now) M members c.if-rows-self.false c.if-block-ne512.false (length c.part-part.result.now)
-    (omega (arith, c.blocks-2.ensures [], ap (block_count (per_block M)) full, c.if-blocks-number.false))
+    (omega (arith, rw c.new-layout.ensures at c.block_count.ensures, ap (block_count (per_block M)) full, c.if-block_count-number.false))
     (ap length written ∙ part_long (per_block M) members k))
-    (block_saved M (g.S.Recorded.recording a.space) (g.met.S.Space.lawful a.space) k (lending a rows []) c.args.block.now (length c.part-part.result.now) c.write_part.new.block c.part-part.result.now written c.write_part.ensures.after)
-    (λ _. subst (λ ms. EachIn ms (λ r. WritableIfAdmitted M (g.S.Recorded.recording a.space) r.point)) written c.write_part.ensures.writable)
+    (block_saved M (g.S.Recorded.recording a.space) (g.met.S.Space.lawful a.space) k (lending a rows []) c.args.block.now (length c.part-part.result.now) c.write_part.new.block c.part-part.result.now written (rw c.new-layout.ensures at c.write_part.ensures.after))
+    (λ _. subst (λ ms. EachIn ms (λ r. WritableIfAdmitted M (g.S.Recorded.recording a.space) r.point)) written (rw c.new-layout.ensures at c.write_part.ensures.writable))

@@ -5,12 +5,12 @@ use Rattle.log_block.specs.Writing.{trial_item}
 use Rattle.history.specs.Lists.{EachIn}
 use Rattle.history.specs.Saving.{item_for}
 use Rattle.history.proofs.Membership.{each_push}
-use Rattle.archive.proofs.saving.part_bytes.Goals as goal
+use Rattle.archive.proofs.saving.Layout.part_bytes.Goals as goal
 
 pub loop-i-preserved : goal.loop-i-preserved
 loop-i-preserved g c =
-    let M = g.S.Space.meaning c.args.space.now in
-    let R = g.S.Recorded.recording c.args.space.now in
+    let M = g.S.Space.meaning c.args.self.now.space.now in
+    let R = g.S.Recorded.recording c.args.self.now.space.now in
     let part = c.args.part.now in
     let bytes = c.loop-i.bytes in
     let i = c.loop-i.i in
