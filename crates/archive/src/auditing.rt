@@ -41,7 +41,8 @@ fn first_fault<S: Space>(space: &S, members: &[Trial<S::Point>]) -> Option<(usiz
 }
 
 impl<S: Space> Archive<S> {
-    // The audit that `audit` hands on, with what holds of it.
+    // The audit that `audit` hands on.
+    // Apart from `audit`: this proof cites a law of the space in a file, and a wrong `audit` is to be refused at its own line.
     fn audit_members(&self, rows: &[Trial<S::Point>]) -> Result<Option<(usize, usize)>, Denial>
         ensures { AuditRight (S.Space.meaning self.now.space) (lending self.now rows.now []) result }
     {

@@ -35,6 +35,7 @@ impl<'a, S: Space> Boxed<'a, S> {
     {
         let mut over = true;
         let mut under = true;
+        // by number, since a space is asked for an objective by its number
         for i in 0..self.space.objectives() {
             let mine = self.numbers[i];
             let theirs = self.space.box_number(i, q);

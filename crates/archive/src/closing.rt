@@ -21,6 +21,7 @@ fn copy_row<P: Copy>(rows: &mut [Trial<P>], from: usize, to: usize)
 pub(crate) fn note(list: &mut [u32], at: usize, tag: u32)
     ensures { list.new ≡ slice_set list.old at tag }
 {
+    // by index: what is written through `get_mut` is not known afterwards
     if at < list.len() {
         list[at] = tag;
     }

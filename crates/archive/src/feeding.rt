@@ -67,6 +67,7 @@ fn take_records<S: Recorded>(
 
 impl<S: Recorded> Archive<S> {
     // A feed, check by check.
+    // Apart from `feed`: this proof cites a law of the space in a file, and a wrong `feed` is to be refused at its own line.
     fn take_block(&mut self, block: &[u8], rows: &mut [Trial<S::Point>]) -> Result<Fed, FeedFault>
         ensures space { self.new.space ≡ self.old.space }
         ensures right { FeedRight (S.Space.meaning self.old.space) (read_point (S.Recorded.recording self.old.space)) block.now (lending self.old rows.old []) result (lending self.new rows.new []) }

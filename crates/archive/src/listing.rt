@@ -19,7 +19,8 @@ fn write_tags<P: Copy>(members: &[Trial<P>], tags: &mut [u32])
 }
 
 impl<S: Space> Archive<S> {
-    // The list that `list` hands on, with what holds of it.
+    // The list that `list` hands on.
+    // Apart from `list`: this proof cites a law of the space in a file, and a wrong `list` is to be refused at its own line.
     fn list_members(&self, rows: &[Trial<S::Point>], tags: &mut [u32]) -> Result<usize, Denial>
         ensures { ListRight (S.Space.meaning self.now.space) (lending self.now rows.now tags.old) result tags.new }
     {

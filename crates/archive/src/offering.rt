@@ -83,6 +83,7 @@ impl<S: Space> Boxed<'_, S> {
 
 impl<S: Space> Archive<S> {
     // An offer, check by check.
+    // Apart from `offer`: this proof cites a law of the space in a file, and a wrong `offer` is to be refused at its own line.
     fn take_offer(
         &mut self,
         trial: Trial<S::Point>,

@@ -98,7 +98,8 @@ fn feed_all<S: Recorded>(
     total
 }
 
-// The restore that `restore` hands on, with what holds of it.
+// The restore that `restore` hands on.
+// Apart from `restore`: this proof cites a law of the space in a file, and a wrong `restore` is to be refused at its own line.
 #[tactic(auto, using(history::proofs::Feeds::round_trip))]
 fn restore_all<S: Recorded>(
     space: S,

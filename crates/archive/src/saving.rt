@@ -105,7 +105,8 @@ impl<S: Recorded> Archive<S> {
         Layout::new(&self.space).block_count(self.count)
     }
 
-    // The save that `save` hands on, with what holds of it.
+    // The save that `save` hands on.
+    // Apart from `save`: this proof cites a law of the space in a file, and a wrong `save` is to be refused at its own line.
     fn save_members(
         &self,
         rows: &[Trial<S::Point>],
