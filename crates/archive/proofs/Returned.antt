@@ -1,15 +1,12 @@
 -- What holds of a restore: the first block at fault, and all blocks fed one after the other.
-use Rattle.std.proofs.Common.{◌≡◌, ℕ, zero, suc, min, ◌*◌, eqb, ltb, suc-mul, zero-mul, add-one, ◌+◌, ◌<◌, ◌≤◌, List, [], ◌∷◌, ◌++◌, map, length, get_or, take, drop, Some, None, Ok, Err, Option, Result, sym, refl, ap, ◌∙◌, subst, arith}
+use Rattle.std.proofs.Common.{◌≡◌, ℕ, zero, suc, min, ◌*◌, eqb, ltb, suc-mul, zero-mul, add-one, ◌+◌, ◌≤◌, List, [], ◌∷◌, ◌++◌, map, length, Some, None, Result, sym, refl, ap, ◌∙◌, subst, arith}
 use Rattle.std.specs.Borrow.{Bor}
 use Rattle.std.specs.List.{range_with_len}
 use Rattle.std.proofs.lemmas.Bool.{cond_both, eqb-true, ltb-false}
 use Rattle.std.proofs.lemmas.List.FromFn.{map-range_with_len_more}
-use Rattle.std.proofs.lemmas.List.{drop_more, get_or-map, map_more, map_push, reverse-append}
+use Rattle.std.proofs.lemmas.List.{map_push, reverse-append}
 use Rattle.space.specs.Meaning.{Meaning}
 use Rattle.space.specs.Recording.{Recording, read_point}
-use Rattle.log_block.specs.declared.faults.Fault.{Fault}
-use Rattle.log_block.specs.Block.{checked}
-use Rattle.log_block.specs.Items.{ItemAt}
 use Rattle.history.specs.declared.answers.Answer.{Answer}
 use Rattle.history.specs.declared.answers.Answer.TheVariants as answer
 use Rattle.history.specs.declared.answers.Fed.{Fed}
@@ -25,8 +22,7 @@ use Rattle.history.specs.Stands.{Stands}
 use Rattle.history.specs.State.{state}
 use Rattle.history.proofs.Feeds.{round_trip}
 use Rattle.history.proofs.Returning.{enough_blocks, some_room}
-use Rattle.archive.specs.declared.restoring.RestoreFault.{RestoreFault}
-use Rattle.archive.specs.declared.restoring.RestoreFault.TheVariants.{Block, Denied}
+use Rattle.archive.specs.declared.restoring.RestoreFault.TheVariants.{Denied}
 use Rattle.archive.specs.Feeding.{FeedRight}
 use Rattle.archive.specs.Lent.{Lent}
 use Rattle.archive.specs.Restoring.{BringsBack, FedAll, RestoreRight, all_fed, fed_of, first_at_fault, restore_fault}

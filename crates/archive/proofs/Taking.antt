@@ -1,5 +1,5 @@
 -- The trials of a block, tried one after the other.
-use Rattle.std.proofs.Common.{◌≡◌, ℕ, suc, ◌+◌, ◌-◌, ◌^◌, ◌<◌, ◌≤◌, true, false, cond, List, [], ◌∷◌, ◌++◌, map, length, take, Some, None, Err, Result, filter, sym, refl, ap, ◌∙◌, subst, add-zero, zero-add, add-one, add_assoc, length-take, arith}
+use Rattle.std.proofs.Common.{◌≡◌, ℕ, suc, ◌+◌, ◌-◌, ◌^◌, ◌<◌, ◌≤◌, true, false, cond, List, [], ◌∷◌, ◌++◌, map, length, Some, None, Err, Result, filter, sym, refl, ap, ◌∙◌, subst, add-zero, zero-add, add-one, add_assoc, length-take, arith}
 use Rattle.std.specs.Option.{option_or}
 use Rattle.space.specs.Meaning.{Meaning}
 use Rattle.space.specs.declared.tagged.Trial.{Trial}
@@ -163,9 +163,6 @@ module _ {P : Type 0} (M : Meaning P) where
     pub same_rows : b.rows.ghost_name ≡ a.rows.ghost_name
 
   module _ (xs : List (TrialAt P)) (a : Members P) where
-    pub going_none : Going xs a xs (all_entered 0) a
-    going_none = record { told = none_sum (tally M (length a.rows.now) (held_by a) xs); in_order = refl; long = refl; same_rows = refl }
-
     pub going_more : (now left : List (TrialAt P)) (r next : Fed) (b c : Members P) → a.count ≤ 4096 → length xs ≤ 255 → Going xs a (now ++ left) r b → TakenRight M now b next c → Going xs a left (capped_fed (sum_fed r next)) c
     going_more now left r next b c few short G T =
         let n = length a.rows.now in

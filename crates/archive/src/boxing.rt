@@ -33,14 +33,16 @@ impl<'a, S: Space> Boxed<'a, S> {
     pub(crate) fn compare(&self, q: &S::Point) -> Option<Ordering>
         ensures { result ≡ box_order (S.Space.meaning self.now.space.now) self.now.trial.point q.now }
     {
+        // copied, since a struct that is read by index stays in memory whole, and every read of the space with it
+        let space = self.space;
+        let numbers = self.numbers;
         let mut over = true;
         let mut under = true;
         // by number, since a space is asked for an objective by its number
-        for i in 0..self.space.objectives() {
-            let mine = self.numbers[i];
-            let theirs = self.space.box_number(i, q);
-            over &= theirs <= mine;
-            under &= mine <= theirs;
+        for i in 0..space.objectives() {
+            let theirs = space.box_number(i, q);
+            over &= theirs <= numbers[i];
+            under &= numbers[i] <= theirs;
             if !over && !under {
                 return None;
             }
@@ -52,11 +54,13 @@ impl<'a, S: Space> Boxed<'a, S> {
             (false, false) => None,
         }
     }
-}
 
-// Whether p dominates q.
-pub(crate) fn dominates<S: Space>(space: &S, p: &S::Point, q: &S::Point) -> bool
-    ensures { result ≡ dominates (S.Space.meaning space.now) p.now q.now }
-{
-    space.no_worse(p, q) && !space.no_worse(q, p)
+    // Whether this trial dominates q.
+    pub(crate) fn dominates(&self, q: &S::Point) -> bool
+        ensures { result ≡ dominates (S.Space.meaning self.now.space.now) self.now.trial.point q.now }
+    {
+        // copied, since a struct that is pointed into stays in memory whole
+        let p = self.trial.point;
+        self.space.no_worse(&p, q) && !self.space.no_worse(q, &p)
+    }
 }

@@ -2,7 +2,7 @@
 ghost use Rattle.std.specs.Prelude.{◌≡◌};
 ghost use Rattle.archive.specs.Deciding.{class, decision, joined_by};
 
-use crate::boxing::{Boxed, dominates};
+use crate::boxing::Boxed;
 use space::{Space, Trial};
 use std::cmp::Ordering;
 
@@ -58,9 +58,7 @@ impl<S: Space> Boxed<'_, S> {
         match self.compare(&member.point) {
             None => Class::Apart,
             Some(Ordering::Greater) => Class::Below,
-            Some(Ordering::Equal) if dominates(self.space, &self.trial.point, &member.point) => {
-                Class::Beaten
-            }
+            Some(Ordering::Equal) if self.dominates(&member.point) => Class::Beaten,
             Some(_) => Class::Shuts,
         }
     }

@@ -1,4 +1,4 @@
-use Rattle.std.proofs.Common.{◌≡◌, [], ◌∷◌, ◌++◌, subst, ◌∙◌, rules}
+use Rattle.std.proofs.Common.{◌≡◌, [], subst, ◌∙◌, rules}
 use Rattle.history.specs.Answers.{told_feed}
 use Rattle.space.specs.Recording.{read_point}
 use Rattle.archive.specs.Feeding.{FeedRight}

@@ -1,6 +1,5 @@
 use Rattle.std.proofs.Common.{[], length, sym, ◌∙◌, subst}
 use Rattle.space.specs.Recording.{read_point}
-use Rattle.history.proofs.Feeds.{round_trip}
 use Rattle.archive.specs.Lent.{lending}
 use Rattle.archive.specs.Restoring.{FedAll}
 use Rattle.archive.specs.Standing.{Begins}

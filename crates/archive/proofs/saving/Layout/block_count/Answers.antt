@@ -1,4 +1,4 @@
-use Rattle.std.proofs.Common.{max, sym, ap, ◌∙◌, rules, arith}
+use Rattle.std.proofs.Common.{max, ap, ◌∙◌, arith}
 use Rattle.history.specs.Saving.{block_count}
 use Rattle.archive.proofs.Saved.{rounded_up, some_per_block}
 use Rattle.archive.proofs.saving.Layout.block_count.Goals as goal
