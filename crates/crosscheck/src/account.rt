@@ -2,7 +2,7 @@
 use crate::tally::Tally;
 use std::io;
 
-// What the verdicts are called.
+// What the verdicts are called. The words stand apart from the counts, since a tally is filled before any of them is said.
 const VERDICTS: [&str; 4] = ["passed over", "entered", "displaced", "replaced"];
 
 // What the denials are called.

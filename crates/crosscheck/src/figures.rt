@@ -13,7 +13,7 @@ pub(crate) type Point = [i64; PLACES];
 pub(crate) enum Rule {
     // no objective: only zero is on the grid
     Unused,
-    // boxes of one width, from a low end to a high end
+    // boxes of one width, from a low end to a high end; whether the smaller figure is the better one is a yes or no of one rule
     Step {
         smaller: bool,
         low: i32,

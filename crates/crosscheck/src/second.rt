@@ -15,7 +15,8 @@ pub(crate) struct Member {
     pub boxes: Point,
 }
 
-// What a call answers, in plain numbers.
+// What a call answers. Verdicts, denials and faults are told by the product's own numbers and not by an enum: this archive shares
+// no type with the first.
 #[derive(Clone, Copy, PartialEq, Eq, Debug)]
 pub(crate) enum Told {
     Judged {
