@@ -34,6 +34,7 @@ fn run(rt: &HostRuntime) -> anyhow::Result<()> {
     // counted by hand: the number goes on from piece to piece
     let mut number = 0u64;
     writeln!(out, "front 1")?;
+    // a bound that no input reaches: every loop is shown to end
     for _ in 0..u64::MAX {
         let filled = fill(&mut input, &mut piece)?;
         for block in piece[..filled].chunks(BLOCK) {

@@ -10,6 +10,7 @@ pub(crate) fn fill<R: Read>(input: &mut R, buffer: &mut [u8]) -> io::Result<usiz
     ensures { IfOk result (λ n. n ≤ length buffer.old) }
 {
     let mut filled = 0;
+    // a bound that no input reaches: every loop is shown to end
     for _ in 0..u64::MAX {
         let count = input.read(&mut buffer[filled..])?;
         filled += count;

@@ -28,6 +28,7 @@ impl Sums {
         ensures { result ≡ sums_of bytes.now }
     {
         let mut sums = Sums { low: 0, high: 0 };
+        // a loop and no fold: the proof of what a fold of both sums gives did not close
         for byte in bytes {
             sums = sums.after(*byte);
         }

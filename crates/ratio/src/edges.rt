@@ -11,8 +11,7 @@ pub(crate) const MOST: usize = 1024;
 // Each figure from 1 on is at least the edge of its box and below the next, and that is so of no other box.
 pub fn edges_enclose()
     ensures { EdgesEnclose }
-{
-}
+{}
 
 // The edge after this one: at least one more, and the per cent more where that is greater.
 fn next_edge(per_cent: u32, from: u32) -> u32

@@ -72,7 +72,8 @@ pub(crate) fn print_trials(
     Ok(standing)
 }
 
-// Each box that no other trial's box dominates, once, with the tags of the trials in it. Says how many stand.
+// Each box that no other trial's box dominates, once, with the tags of the trials in it. Says how many stand: they are counted as
+// they are printed, for the same reason.
 pub(crate) fn print_boxes(
     rt: &HostRuntime,
     space: &LoggerSpace,

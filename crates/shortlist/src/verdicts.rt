@@ -21,6 +21,7 @@ struct Sums {
 impl Sums {
     // Adds the answer to one offer.
     fn add(&mut self, offered: Offered) {
+        // one arm a verdict: the sums are named, since each is printed under its own name
         match offered.verdict {
             Verdict::PassedOver => self.passed_over = self.passed_over.saturating_add(1),
             Verdict::Entered => self.entered = self.entered.saturating_add(1),

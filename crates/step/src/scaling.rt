@@ -33,9 +33,7 @@ impl Scale {
     pub(crate) fn is_sound(&self) -> bool
         ensures { result ≡ step_sound self.now }
     {
-        self.low <= self.high
-            && (1..=2_147_483_647).contains(&self.step)
-            && self.last_box() < 1024
+        self.low <= self.high && (1..=2_147_483_647).contains(&self.step) && self.last_box() < 1024
     }
 
     // The number of the last box. It is one below the extent, which may be one more than 32 bits hold.

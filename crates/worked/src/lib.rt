@@ -6,5 +6,4 @@ ghost use Rattle.worked.specs.Figures.{Figures};
 // Every worked figure of the spaces, of archives and of blocks holds.
 pub fn worked_figures()
     ensures { Figures }
-{
-}
+{}
