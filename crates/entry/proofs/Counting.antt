@@ -1,7 +1,7 @@
 -- How a number is read digit by digit.
-use Rattle.std.proofs.Common.{◌≡◌, ℕ, ◌+◌, ◌-◌, ◌*◌, ◌<◌, ◌≤◌, true, false, cond, ◌&&◌, ltb, List, [], ◌∷◌, length, get_or, drop, Some, None, Option, ap, ⊎_elim, arith}
+use Rattle.std.proofs.Common.{◌≡◌, ℕ, ◌+◌, ◌-◌, ◌*◌, ◌<◌, ◌≤◌, true, false, cond, ◌&&◌, ltb, List, [], ◌∷◌, length, get_or, drop, Some, None, Option, ap, arith}
 use Rattle.std.proofs.lemmas.List.{at_drop_more, at_drop_all}
-use Rattle.std.proofs.lemmas.Bool.{cases_Bool, cond-true, cond-false, and_parts, and_right, le-ltb, lt-ltb, ltb-true}
+use Rattle.std.proofs.lemmas.Bool.{cond-true, cond-false, and_right, le-ltb, lt-ltb}
 use Rattle.entry.specs.Line.{digit, digits, decimal_after, number_below}
 
 -- what the digits that are left make of the number so far
@@ -77,20 +77,3 @@ module _ (limit : ℕ) (ds : List ℕ) (i n : ℕ) (made : number_after limit n 
       let last = at_drop_all (number_after limit n) ds i past in
       let whole = all_read limit n l in
       cc
-
--- a number that is read is below the limit
-pub number_small : (limit n : ℕ) (ds : List ℕ) → Some n ≡ number_below limit ds → n < limit
-number_small limit n ds e =
-    let test = ltb 0 (length ds) && (digits ds && ltb (decimal_after 0 ds) limit) in
-    ⊎_elim
-    (λ yes.
-    let is = cond-true test (Some (decimal_after 0 ds)) None yes in
-    let same : n ≡ decimal_after 0 ds = cc in
-    let numeral = and_parts (ltb 0 (length ds)) (digits ds && ltb (decimal_after 0 ds) limit) yes in
-    let small = and_parts (digits ds) (ltb (decimal_after 0 ds) limit) numeral.1 in
-    omega (arith, ltb-true (decimal_after 0 ds) limit small.1))
-    (λ none.
-    let is = cond-false test (Some (decimal_after 0 ds)) None none in
-    let z : ◌≡◌ {A = ℕ} 0 1 = cc in
-    absurd (omega arith))
-    (cases_Bool test)

@@ -1,13 +1,12 @@
 -- What a space rests on that holds its rules and asks the first n: it keeps the laws, and its admitted points are writable.
-use Rattle.std.proofs.Common.{◌≡◌, ℕ, ◌+◌, ◌*◌, ◌/◌, ◌<◌, ◌≤◌, true, ◌&&◌, ◌||◌, eqb, ltb, List, [], ◌∷◌, map, length, get_or, take, replicate, refl, ap, ◌∙◌, subst, ⊎_elim, arith, rules}
+use Rattle.std.proofs.Common.{◌≡◌, ℕ, ◌*◌, ◌/◌, ◌<◌, ◌≤◌, true, ◌&&◌, ◌||◌, eqb, ltb, List, [], ◌∷◌, map, length, take, refl, ap, ◌∙◌, subst, ⊎_elim, arith, rules}
 use Rattle.std.specs.List.{AllByRecursion}
 use Rattle.std.proofs.ByRecursion.{All-map}
-use Rattle.std.proofs.lemmas.List.{get_or_past, get_or-replicate, length-map, length-replicate, length-take-le}
+use Rattle.std.proofs.lemmas.List.{length-map, length-take-le}
 use Rattle.std.proofs.lemmas.Bool.{and_from, cases_lt, eq-eqb, lt-ltb, or_left, or_right}
 use Rattle.space.specs.Meaning.{Lawful}
 use Rattle.grid.specs.Bits.{Bits, Exact, signed_bits, unsigned_bits}
-use Rattle.word.specs.Word.{number_at}
-use Rattle.grid.specs.Bytes.{all_held, figures_read, sextuple, zero_from}
+use Rattle.grid.specs.Bytes.{all_held, sextuple, zero_from}
 use Rattle.grid.specs.Line.{Line, LineLawful}
 use Rattle.grid.specs.Space.{admits_at, figure_at, grid_meaning}
 use Rattle.grid.specs.Laws.{lawful_grid, past_the_last}
@@ -74,23 +73,3 @@ module _ {A F : Type 0} (B : Bits F) (line : A → Line F) (axes : List A) (n : 
       (λ in'. or_left (ltb i n) (B.is_zero (figure_at B p i)) (lt-ltb i n in'))
       (λ past. or_right (ltb i n) (B.is_zero (figure_at B p i)) (zero_past p a i l past))
       (cases_lt i n))))
-
-module _ {F : Type 0} (B : Bits F) (exact : Exact B) (k : ℕ) where
-  -- each byte of k zeros is zero, and past them there is none
-  zero_byte : (j : ℕ) → get_or {A = ℕ} (replicate k 0) j 0 ≡ 0
-  zero_byte j =
-      ⊎_elim
-      (λ (l : j < k). get_or-replicate k j 0 0 l)
-      (λ (l : k ≤ j). get_or_past (replicate k 0) j 0 (omega (arith, length-replicate {A = ℕ} k 0)))
-      (cases_lt j k)
-
-  -- so that each figure is zero
-  zero_figure : (i : ℕ) → B.from (number_at (replicate k 0) i) ≡ B.zero
-  zero_figure i =
-      let none : number_at (replicate k 0) i ≡ 0 = omega (arith, zero_byte (4 * i), zero_byte (4 * i + 1), zero_byte (4 * i + 2), zero_byte (4 * i + 3)) in
-      ap B.from none ∙ exact.zero_bits
-
-  -- zero bytes say six zeros
-  pub zeros_read : figures_read B (replicate k 0) ≡ replicate 6 B.zero
-  zeros_read =
-      cc (zero_figure 0, zero_figure 1, zero_figure 2, zero_figure 3, zero_figure 4, zero_figure 5)

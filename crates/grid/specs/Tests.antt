@@ -1,8 +1,7 @@
 -- A test at each number below a bound.
-use Rattle.std.proofs.Common.{◌≡◌, ℕ, zero, suc, ◌+◌, ◌<◌, Bool, true, false, ◌&&◌, sym, refl, ap, ◌∙◌, ⊎_elim, add-zero, arith}
+use Rattle.std.proofs.Common.{◌≡◌, ℕ, zero, suc, ◌+◌, ◌<◌, Bool, true, ◌&&◌, sym, refl, ap, ◌∙◌, add-zero, arith}
 use Rattle.std.proofs.Math.Bool.{and_assoc, and_comm}
 use Rattle.std.specs.List.{list_all, range_with_len}
-use Rattle.std.proofs.lemmas.Bool.{both_ways, cases_Bool}
 use Rattle.std.proofs.lemmas.Bool.Decides.{Decides-below_and}
 use Rattle.grid.specs.Space.{all_below}
 
@@ -16,10 +15,6 @@ module _ (f : ℕ → Bool) where
   pub all_below_from : (n : ℕ) → ((k : ℕ) → k < n → f k ≡ true) → all_below f n ≡ true
   unfolding all_below
   all_below_from n h = (Decides-below_and f (λ k. f k ≡ true) (all_below f) (λ k. ((λ e. e), (λ e. e))) refl (λ _. refl) n).1 h
-
-  -- it fails at one
-  pub all_below_fails : (n k : ℕ) → k < n → f k ≡ false → all_below f n ≡ false
-  all_below_fails n k l e = ⊎_elim (λ t. absurd (both_ways (f k) e (all_below_each n t k l))) (λ h. h) (cases_Bool (all_below f n))
 
 -- one number more of a range, at its end
 one_more : (f : ℕ → Bool) (a n : ℕ) → list_all f (range_with_len a (suc n)) ≡ (f (a + n) && list_all f (range_with_len a n))

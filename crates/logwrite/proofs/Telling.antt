@@ -1,9 +1,9 @@
 -- What lines give: a note is no entry, and a block may hold each record alone.
-use Rattle.std.proofs.Common.{◌≡◌, ℕ, ◌+◌, ◌<◌, cond, eqb, leb, List, [], ◌∷◌, ◌++◌, map, length, get_or, take, drop, codes, Some, None, Ok, Err, Option, Result, sym, refl, ap, ◌∙◌, ⊎_elim}
+use Rattle.std.proofs.Common.{◌≡◌, ℕ, cond, eqb, leb, List, [], ◌∷◌, ◌++◌, map, length, take, drop, codes, Some, None, Ok, Err, Option, Result, sym, refl, ap, ◌∙◌, ⊎_elim}
 use Rattle.std.specs.List.{flat_map}
 use Rattle.std.specs.Str.{bytes_eq}
 use Rattle.std.proofs.lemmas.Bool.{cases_Bool, cond_both, cond-false, leb-true}
-use Rattle.std.proofs.lemmas.List.{flat_map_more, map_more, take-append-drop}
+use Rattle.std.proofs.lemmas.List.{take-append-drop}
 use Rattle.std.proofs.lemmas.Slice.Eq.{bytes_eq-Decides}
 use Rattle.space.specs.Recording.{read_point}
 use Rattle.entry.specs.declared.outcome.Entry.{Entry}
@@ -65,10 +65,6 @@ alone_append (x ∷ xs) ys h g = (h.0, alone_append xs ys h.1 g)
 pub lines_alone : (ls : List (List ℕ)) → Alone (flat_map given (map item_of_line ls))
 lines_alone [] = tt
 lines_alone (l ∷ ls) = alone_append (given (item_of_line l)) (flat_map given (map item_of_line ls)) (from_alone (note_of (without_return l)) (entry_of l)) (lines_alone ls)
-
--- what one line more gives
-pub given_more : (ls : List (Result Line Unsaid)) (i : ℕ) (d : Result Line Unsaid) (xs : List Item) → i < length ls → xs ≡ flat_map given (map told (take i ls)) → xs ++ given (told (get_or ls i d)) ≡ flat_map given (map told (take (i + 1) ls))
-given_more ls i d xs l e = ap (λ ys. ys ++ given (told (get_or ls i d))) e ∙ (flat_map_more given [] (map told (take i ls)) (told (get_or ls i d)) ∙ ap (flat_map given) (sym (map_more told ls i d l)))
 
 -- trials among more records
 pub trials_more : (xs ys : List Item) → trials_read (xs ++ ys) ≡ trials_read xs ++ trials_read ys
