@@ -25,10 +25,7 @@ fn admits_at<A: Axis>(axes: &[A], p: &[A::Figure], i: usize) -> bool
     ensures { result ≡ admits_at A.Figure.Figure.bits (map A.Axis.line axes.now) p.now i }
 {
     let v = figure_at(p, i);
-    match axis_at(axes, i) {
-        Some(axis) => axis.admits(v),
-        None => v.is_zero(),
-    }
+    axis_at(axes, i).map_or(v.is_zero(), |axis| axis.admits(v))
 }
 
 // Whether p's figure is no worse than q's at place i.
@@ -84,10 +81,7 @@ pub fn no_worse<A: Axis>(axes: &[A], p: &[A::Figure], q: &[A::Figure]) -> bool
 pub fn extent<A: Axis>(axes: &[A], i: usize) -> u32
     ensures { result ≡ (grid_meaning A.Figure.Figure.bits (map A.Axis.line axes.now)).extent i }
 {
-    match axis_at(axes, i) {
-        Some(axis) => axis.extent(),
-        None => 1,
-    }
+    axis_at(axes, i).map_or(1, |axis| axis.extent())
 }
 
 // Which box of objective i holds the point; 0 off the grid.
@@ -97,10 +91,7 @@ pub fn box_number<A: Axis>(axes: &[A], i: usize, p: &[A::Figure]) -> u32
     if !admits(axes, p) {
         return 0;
     }
-    match axis_at(axes, i) {
-        Some(axis) => axis.box_number(figure_at(p, i)),
-        None => 0,
-    }
+    axis_at(axes, i).map_or(0, |axis| axis.box_number(figure_at(p, i)))
 }
 
 // Whether p is within the tolerance of q, or better, in every objective.

@@ -20,7 +20,7 @@ pub trait Figure: Copy {
     ghost exact: { Exact bits };
 }
 
-// The figure zero. Every figure is of 32 bits that is turned into them, and so this one is.
+// The figure zero. It is turned to bits only for what that promises: 32 bits hold it.
 pub(crate) fn zero<F: Figure>() -> F
     ensures value { result ≡ F.Figure.bits.zero }
     ensures held { F.Figure.bits.holds F.Figure.bits.zero ≡ true }

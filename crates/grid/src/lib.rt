@@ -1,5 +1,5 @@
 // Grids: points of up to six figures of 32 bits, each objective divided by a rule of its own.
-// What every grid does is written once here, over any rule; a space of the house holds its rules and asks this.
+// What every grid does is written once here, over any rule: a space of the house is the grid of its own rule.
 #![tactic(auto)]
 
 mod axis;

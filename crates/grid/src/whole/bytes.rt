@@ -18,8 +18,8 @@ impl<A: Axis> Grid<A> {
         [zero(); 6]
     }
 
-    // Writes the point over a part of its width. That 32 bits hold its figures is known of each that is written, and past the
-    // last objective of zero.
+    // Writes the point over a part of its width. Of each figure that is written it is known that 32 bits hold it; zero is asked for
+    // only so that the same is known of those past the last objective.
     fn fill(&self, p: &[A::Figure; 6], out: &mut [u8])
         requires { length out.old ≡ (recording_by A.Figure.Figure.bits self.now).width }
         ensures after { out.new ≡ (recording_by A.Figure.Figure.bits self.now).writes p.now }
