@@ -50,8 +50,7 @@ pub fn write_figures<F: Figure>(p: &[F], out: &mut [u8])
     ensures after { out.new ≡ map (byte_at F.Figure.bits p.now) (range_with_len 0 (length out.old)) }
     ensures held { (k : ℕ) → k < length out.old → F.Figure.bits.holds (figure_at F.Figure.bits p.now (k / 4)) ≡ true }
 {
-    // k is the number of the byte that the figures are asked for
-    for k in 0..out.len() {
-        out[k] = byte_of(p, k);
+    for (k, byte) in out.iter_mut().enumerate() {
+        *byte = byte_of(p, k);
     }
 }

@@ -1,6 +1,6 @@
 // The questions of a grid, over the rules of its objectives. Six places are asked, and past the last objective
 // a place has no rule: only zero may stand there, and it makes no difference.
-ghost use Rattle.std.specs.Prelude.{◌≡◌, map, MatchOption};
+ghost use Rattle.std.specs.Prelude.{◌≡◌, ℕ, Bool, map, MatchOption};
 ghost use Rattle.grid.specs.Space.{admits_at, all_below, covers_at, figure_at, grid_meaning, line_at, no_worse_at, unused};
 
 use crate::axis::Axis;
@@ -28,7 +28,8 @@ fn admits_at<A: Axis>(axes: &[A], p: &[A::Figure], i: usize) -> bool
     axis_at(axes, i).map_or(v.is_zero(), |axis| axis.admits(v))
 }
 
-// Whether p's figure is no worse than q's at place i.
+// Whether p's figure is no worse than q's at place i. This question and that of covering are two functions: one for both takes an
+// enum of the two, a `match` over it and a definition more, and is no shorter.
 fn no_worse_at<A: Axis>(axes: &[A], p: &[A::Figure], q: &[A::Figure], i: usize) -> bool
     ensures { result ≡ no_worse_at A.Figure.Figure.bits (map A.Axis.line axes.now) p.now q.now i }
 {
@@ -42,39 +43,26 @@ fn covers_at<A: Axis>(axes: &[A], p: &[A::Figure], q: &[A::Figure], i: usize) ->
     axis_at(axes, i).is_none_or(|axis| axis.covers(figure_at(p, i), figure_at(q, i)))
 }
 
-// Whether each of the first n places admits its figure.
-fn admits_below<A: Axis>(axes: &[A], p: &[A::Figure], n: usize) -> bool
-    ensures { result ≡ all_below (admits_at A.Figure.Figure.bits (map A.Axis.line axes.now) p.now) n }
+// Whether the test holds at each of the first n places.
+fn all_below<T: Fn(usize) -> bool>(n: usize, test: T) -> bool
+    requires { T.IsAlwaysCallable test }
+    ensures { (f : ℕ → Bool) → ((i : ℕ) (b : Bool) → T.post test i b → b ≡ f i) → result ≡ all_below f n }
 {
-    (0..n).all(|i| admits_at(axes, p, i))
-}
-
-// Whether p is no worse than q at each of the first n places.
-fn no_worse_below<A: Axis>(axes: &[A], p: &[A::Figure], q: &[A::Figure], n: usize) -> bool
-    ensures { result ≡ all_below (no_worse_at A.Figure.Figure.bits (map A.Axis.line axes.now) p.now q.now) n }
-{
-    (0..n).all(|i| no_worse_at(axes, p, q, i))
-}
-
-// Whether p covers q at each of the first n places.
-fn covers_below<A: Axis>(axes: &[A], p: &[A::Figure], q: &[A::Figure], n: usize) -> bool
-    ensures { result ≡ all_below (covers_at A.Figure.Figure.bits (map A.Axis.line axes.now) p.now q.now) n }
-{
-    (0..n).all(|i| covers_at(axes, p, q, i))
+    (0..n).all(|i| test(i))
 }
 
 // Whether the point is on the grid of these rules.
 pub fn admits<A: Axis>(axes: &[A], p: &[A::Figure]) -> bool
     ensures { result ≡ (grid_meaning A.Figure.Figure.bits (map A.Axis.line axes.now)).admits p.now }
 {
-    admits_below(axes, p, 6)
+    all_below(6, |i| admits_at(axes, p, i))
 }
 
 // Whether p is at least as good as q in every objective.
 pub fn no_worse<A: Axis>(axes: &[A], p: &[A::Figure], q: &[A::Figure]) -> bool
     ensures { result ≡ (grid_meaning A.Figure.Figure.bits (map A.Axis.line axes.now)).no_worse p.now q.now }
 {
-    no_worse_below(axes, p, q, 6)
+    all_below(6, |i| no_worse_at(axes, p, q, i))
 }
 
 // How many boxes objective i has.
@@ -98,5 +86,5 @@ pub fn box_number<A: Axis>(axes: &[A], i: usize, p: &[A::Figure]) -> u32
 pub fn covers<A: Axis>(axes: &[A], p: &[A::Figure], q: &[A::Figure]) -> bool
     ensures { result ≡ (grid_meaning A.Figure.Figure.bits (map A.Axis.line axes.now)).covers p.now q.now }
 {
-    covers_below(axes, p, q, 6)
+    all_below(6, |i| covers_at(axes, p, q, i))
 }

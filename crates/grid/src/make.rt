@@ -23,7 +23,8 @@ pub fn rules<A: Axis>(scales: &[A::Scale]) -> Result<[A; 6], BadGrid>
     }
     let first = rule_of(scales[0], 0)?;
     let mut axes = [first; 6];
-    // i is the objective, which a fault tells, and its place in both arrays
+    // i is the objective, which a fault tells, and its place in both arrays; of what is written through a zipped `iter_mut` a
+    // proof knows nothing
     for i in 1..scales.len() {
         axes[i] = rule_of(scales[i], i as u8)?;
     }

@@ -18,6 +18,6 @@ impl Figure for u32 {
     }
 
     fn is_zero(self) -> bool {
-        0 == self
+        self == 0
     }
 }

@@ -22,6 +22,7 @@ impl BadGrid {
         ensures { result ≡ told_place self.now }
     {
         match self {
+            // the product's number for it, which is told outside; no objective has it
             BadGrid::Objectives => 255,
             BadGrid::Objective(i) => *i,
         }
