@@ -50,12 +50,7 @@ impl Fed {
     pub fn first_report(&self) -> Report
         ensures { result ≡ first_report self.now.first }
     {
-        let none = Report {
-            number: 0,
-            layer: 0,
-            place: 0,
-        };
-        self.first.map_or(none, |denied| denied.report())
+        self.first.map(|denied| denied.report()).unwrap_or_default()
     }
 }
 

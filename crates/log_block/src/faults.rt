@@ -39,7 +39,7 @@ pub enum Fault {
 }
 
 // A fault by its number, the layer that found it, and its place.
-#[derive(Clone, Copy, PartialEq, Eq, Debug)]
+#[derive(Clone, Copy, PartialEq, Eq, Debug, Default)]
 pub struct Report {
     pub number: u8,
     pub layer: u8,

@@ -28,12 +28,11 @@ pub(crate) fn fill_edges(scale: Scale, edges: &mut [u32; MOST]) -> Option<u32>
     ensures filled { (k : ℕ) → k < extent_of scale → k < 1024 → slice_index edges.new k ≡ edge scale.per_cent k }
 {
     let mut edge = 1;
-    // the count is the answer, and the place of the next edge
-    for count in 0..MOST {
+    for (count, place) in edges.iter_mut().enumerate() {
         if edge > scale.ceiling {
             return Some(count as u32);
         }
-        edges[count] = edge;
+        *place = edge;
         edge = next_edge(scale.per_cent, edge);
     }
     (edge > scale.ceiling).then_some(MOST as u32)

@@ -4,7 +4,7 @@ ghost use Rattle.ratio.specs.Edges.{edge, Holds};
 ghost use Rattle.ratio.specs.Rule.{extent_of, ratio_sound, ratio_line};
 ghost use Rattle.ratio.specs.Laws.{ratio_lawful};
 
-mod halving;
+mod finding;
 
 use crate::edges::{MOST, fill_edges};
 use crate::scaling::Scale;

@@ -1,3 +1,4 @@
 pub mod Boxes
+pub mod Numbers
 pub mod Places
 pub mod Tops

@@ -30,6 +30,7 @@ impl Axis for StepAxis {
     ghost lawful = { λ a. step_lawful a.scale a.sound };
 
     fn new(scale: Scale) -> Option<StepAxis> {
+        // by `if`: in the closure of a `then` it is not known that the scale is sound
         if scale.is_sound() {
             Some(StepAxis { scale })
         } else {
@@ -38,6 +39,7 @@ impl Axis for StepAxis {
     }
 
     fn admits(&self, v: i32) -> bool {
+        // `contains` of a range needs a file of answers, and a wrong `admits` is to be refused at its own line
         self.scale.low <= v && v <= self.scale.high
     }
 

@@ -1,25 +1,19 @@
-use Rattle.std.proofs.Common.{◌≡◌, ℕ, ◌<◌, Bool, true, false, not, length, get_or, refl, subst, arith, rules}
+use Rattle.std.proofs.Common.{ℕ, ◌<◌, Bool, true, false, not, length, refl, arith, rules}
 use Rattle.std.specs.Bool.{MatchBool}
 use Rattle.std.specs.List.{AllWithin, HoldsAt, range_with_len}
 use Rattle.std.specs.Prelude.{Decides}
 use Rattle.std.proofs.lemmas.Bool.{false≢true}
 use Rattle.std.proofs.lemmas.Iterator.{YieldsList-from_range, cases_from_any}
-use Rattle.std.proofs.lemmas.List.FromFn.{length-range_with_len, get_or-range_with_len}
 use Rattle.standing.specs.Standing.{OnGrid, Pair, Related}
+use Rattle.standing.proofs.Numbers.{at_each, at_some}
 use Rattle.standing.proofs.among.Tried.none_of.Goals as goal
 
 -- the opposite of what `any` answers over the first n places
 none : (n : ℕ) (Met : ℕ → Type 0) (r : Bool) → MatchBool r ((k : ℕ) × (k < length (range_with_len 0 n)) × HoldsAt Met (range_with_len 0 n) k) (AllWithin (λ k. Met k → ⊥) (range_with_len 0 n) 0 (length (range_with_len 0 n))) → Decides (not r) ((k : ℕ) → k < n → Met k → ⊥)
 none n Met true h =
-    let inside : h.0 < n = omega (arith, h.1, length-range_with_len 0 n) in
-    let place : get_or (range_with_len 0 n) h.0 0 ≡ h.0 = omega (arith, get_or-range_with_len 0 n h.0 0 inside) in
-    (λ e. absurd (false≢true e), λ no. absurd (no h.0 inside (subst Met place (h.2 0))))
-none n Met false h = (
-  λ _ k l m.
-      let place : k ≡ get_or (range_with_len 0 n) k 0 = omega (arith, get_or-range_with_len 0 n k 0 l) in
-      h k 0 (omega arith) (omega (arith, length-range_with_len 0 n)) (subst Met place m),
-  λ _. refl,
-)
+    let some = at_some Met n h in
+    (λ e. absurd (false≢true e), λ no. absurd (no some.0 some.1 some.2))
+none n Met false h = (λ _. at_each (λ k. Met k → ⊥) n h, λ _. refl)
 
 pub returns : goal.returns
 returns g c =
