@@ -1,5 +1,6 @@
 // Audit: the first two rows that may not be members together.
 ghost use Rattle.std.specs.Prelude.{◌≡◌, []};
+ghost use Rattle.std.specs.List.{position};
 ghost use Rattle.history.specs.Auditing.{clash, first_pair};
 ghost use Rattle.archive.specs.Auditing.{AuditRight};
 ghost use Rattle.archive.specs.Lent.{lending};
@@ -16,28 +17,29 @@ impl<S: Space> Boxed<'_, S> {
     {
         self.compare(&other.point).is_some()
     }
+
+    // Which of these trials is the first that clashes with this one.
+    fn first_clash(&self, others: &[Trial<S::Point>]) -> Option<usize>
+        ensures { result ≡ position (clash (S.Space.meaning self.now.space.now) self.now.trial) others.now }
+    {
+        others.iter().position(|other| self.clashes(other))
+    }
 }
 
 // The first pair of rows at fault: the lowest row, and with it the lowest one from it on.
 fn first_fault<S: Space>(space: &S, members: &[Trial<S::Point>]) -> Option<(usize, usize)>
     ensures { result ≡ first_pair (S.Space.meaning space.now) members.now }
 {
-    let mut found = None;
-    'rows: for (i, row) in members.iter().enumerate() {
+    for (i, row) in members.iter().enumerate() {
         if !space.admits(&row.point) {
-            found = Some((i, i));
-            break 'rows;
+            return Some((i, i));
         }
-        let boxed = Boxed::new(space, *row);
-        // by its place, since that place is answered
-        for j in i + 1..members.len() {
-            if boxed.clashes(&members[j]) {
-                found = Some((i, j));
-                break 'rows;
-            }
+        let after = i + 1;
+        if let Some(k) = Boxed::new(space, *row).first_clash(&members[after..]) {
+            return Some((i, after + k));
         }
     }
-    found
+    None
 }
 
 impl<S: Space> Archive<S> {
@@ -46,11 +48,7 @@ impl<S: Space> Archive<S> {
     fn audit_members(&self, rows: &[Trial<S::Point>]) -> Result<Option<(usize, usize)>, Denial>
         ensures { AuditRight (S.Space.meaning self.now.space) (lending self.now rows.now []) result }
     {
-        if rows.len() != self.rows {
-            return Err(Denial::StrangeRows);
-        }
-        let (members, _) = rows.split_at(self.count);
-        Ok(first_fault(&self.space, members))
+        Ok(first_fault(&self.space, self.members(rows)?))
     }
 
     // The first two rows that may not be members together, or none.

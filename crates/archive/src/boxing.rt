@@ -55,7 +55,8 @@ impl<'a, S: Space> Boxed<'a, S> {
         }
     }
 
-    // Whether this trial dominates q.
+    // Whether this trial dominates q. Written apart from the question of that name in the crate of what stands, which is the yardstick
+    // that an archive is held against.
     pub(crate) fn dominates(&self, q: &S::Point) -> bool
         ensures { result ≡ dominates (S.Space.meaning self.now.space.now) self.now.trial.point q.now }
     {

@@ -24,15 +24,12 @@ impl<S: Space> Archive<S> {
     fn list_members(&self, rows: &[Trial<S::Point>], tags: &mut [u32]) -> Result<usize, Denial>
         ensures { ListRight (S.Space.meaning self.now.space) (lending self.now rows.now tags.old) result tags.new }
     {
-        if rows.len() != self.rows {
-            return Err(Denial::StrangeRows);
-        }
-        if tags.len() < self.count {
+        let members = self.members(rows)?;
+        if tags.len() < members.len() {
             return Err(Denial::ShortList);
         }
-        let (members, _) = rows.split_at(self.count);
         write_tags(members, tags);
-        Ok(self.count)
+        Ok(members.len())
     }
 
     // Writes the members' tags to the front of the list, in row order, and answers how many they are.

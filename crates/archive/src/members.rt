@@ -3,7 +3,8 @@ ghost use Rattle.std.specs.Prelude.{◌≡◌, ◌≤◌, length, take};
 
 use space::Trial;
 
-// All rows, and how many of them hold members: the first ones.
+// All rows, and how many of them hold members: the first ones. The rows are lent with their count beside it, and no `Vec` holds them:
+// an archive has no heap.
 #[derive(Drop)]
 pub(crate) struct Members<'a, P> {
     pub rows: &'a mut [Trial<P>],

@@ -111,6 +111,7 @@ fn restore_all<S: Recorded>(
 {
     let objectives = objectives_of(&space);
     let mut archive = Archive::new(space, rows)?;
+    // by `if let`: the closure of a `map_err` would take the archive, whose space is handed back
     if let Err(fault) = check_all(objectives, blocks) {
         let Archive { space, .. } = archive;
         return Err(Unrestored { space, fault });

@@ -60,7 +60,7 @@ impl<'a, S: Recorded> Layout<'a, S> {
         }
     }
 
-    // Some trials as bytes, in front: no block has room for more than fifty.
+    // Some trials as bytes, in front: no block has room for more than fifty. An array, and no `Vec`: an archive has no heap.
     fn part_bytes(&self, part: &[Trial<S::Point>]) -> [TrialBytes; 50]
         requires { length part.now ≤ 50 }
         ensures value { map (trial_item (S.Space.meaning self.now.space.now).objectives) (take (length part.now) result) ≡ map (item_for (S.Recorded.recording self.now.space.now)) part.now }
@@ -70,6 +70,7 @@ impl<'a, S: Recorded> Layout<'a, S> {
             tag: 0,
             point: [0; 24],
         }; 50];
+        // by place: what is written through a zipped `iter_mut` is not known afterwards
         for (i, trial) in part.iter().enumerate() {
             bytes[i] = self.trial_bytes(trial);
         }
@@ -115,17 +116,14 @@ impl<S: Recorded> Archive<S> {
     ) -> Result<usize, Denial>
         ensures { SaveRight (S.Space.meaning self.now.space) (S.Recorded.recording self.now.space) number (lending self.now rows.now []) block.old result block.new }
     {
-        if rows.len() != self.rows {
-            return Err(Denial::StrangeRows);
-        }
+        let members = self.members(rows)?;
         if block.len() != 512 {
             return Err(Denial::WrongLength);
         }
         let layout = Layout::new(&self.space);
-        if layout.block_count(self.count) <= number {
+        if layout.block_count(members.len()) <= number {
             return Err(Denial::NoSuchBlock);
         }
-        let (members, _) = rows.split_at(self.count);
         let part = layout.part(members, number);
         layout.write_part(part, number, block);
         Ok(part.len())

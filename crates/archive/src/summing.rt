@@ -1,4 +1,4 @@
-// What trials of a block came to.
+// What one trial of a block adds to the sum of its block.
 ghost use Rattle.std.specs.Prelude.{◌≡◌};
 ghost use Rattle.archive.specs.Summing.{one_fed};
 

@@ -1,27 +1,31 @@
-use Rattle.std.proofs.Common.{◌≡◌, ◌++◌, length, take, drop, sym, refl, ap, ◌∙◌, arith, rules}
-use Rattle.std.proofs.lemmas.List.{length-take-le}
+use Rattle.std.proofs.Common.{◌≡◌, ◌++◌, length, take, drop, Err, sym, refl, ap, ◌∙◌, subst, arith, rules}
+use Rattle.history.specs.declared.denials.Denial.TheVariants.{StrangeRows}
+use Rattle.archive.specs.Lent.{lending}
+use Rattle.archive.specs.Listing.{ListRight}
 use Rattle.archive.proofs.Idle.{list_granted, list_right, list_short, strange_is}
 use Rattle.archive.proofs.Tags.{tags_of}
 use Rattle.archive.proofs.holding.Archive.list_members.Goals as goal
 
-pub returns-then-rows-self : goal.returns-then-rows-self
-returns-then-rows-self g c = list_right _ (g.met.S.Space.lawful c.args.self.now.space) _ _ _ (strange_is _ _ _ c.if-rows-self.true) refl
+pub returns-in_err-members : goal.returns-in_err-members
+returns-in_err-members g c =
+    let M = g.S.Space.meaning c.args.self.now.space in
+    let told : c.from_residual.result ≡ Err StrangeRows = search rules in
+    let a = lending c.args.self.now c.args.rows.now c.args.tags.now in
+    subst (λ r. ListRight M a r c.args.tags.now) (sym told) (list_right M (g.met.S.Space.lawful c.args.self.now.space) a _ _ (strange_is _ _ _ c.in_err-members.ensures.1) refl)
 
-pub returns-then-tags-self : goal.returns-then-tags-self
-returns-then-tags-self g c =
+pub returns-then-tags-members : goal.returns-then-tags-members
+returns-then-tags-members g c =
     let a = c.args.self.now in
     let rows = c.args.rows.now in
-    let full : length (take a.count rows) ≡ a.count = length-take-le a.count rows (search rules) in
-    list_right _ (g.met.S.Space.lawful a.space) _ _ _ (list_short a.rows (length rows) (length c.args.tags.now) (take a.count rows) c.if-rows-self.false (omega (arith, full))) refl
+    let found = c.in_ok-members.ensures in
+    list_right _ (g.met.S.Space.lawful a.space) _ _ _ (list_short a.rows (length rows) (length c.args.tags.now) (take a.count rows) found.0 (omega (arith, ap length found.1, c.if-tags-members.true))) refl
 
 pub returns : goal.returns
 returns g c =
     let a = c.args.self.now in
     let rows = c.args.rows.now in
     let tags = c.args.tags.now in
-    let full : length (take a.count rows) ≡ a.count = length-take-le a.count rows (search rules) in
-    let front = c.split_at.ensures.front in
-    let size : length c.split_at.result.0.now ≡ a.count = ap length front ∙ full in
+    let found = c.in_ok-members.ensures in
     list_right _ (g.met.S.Space.lawful a.space) _ _ _
-    (list_granted a.rows (length rows) (length tags) a.count (take a.count rows) c.if-rows-self.false (sym full) c.if-tags-self.false)
-    (c.write_tags.ensures ∙ (ap (λ ms. tags_of ms ++ drop (length c.split_at.result.0.now) tags) front ∙ ap (λ n. tags_of (take a.count rows) ++ drop n tags) size))
+    (list_granted a.rows (length rows) (length tags) (length c.in_ok-members.members.now) (take a.count rows) found.0 (ap length found.1) c.if-tags-members.false)
+    (c.write_tags.ensures ∙ ap (λ ms. tags_of ms ++ drop (length c.in_ok-members.members.now) tags) found.1)
