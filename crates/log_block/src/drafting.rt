@@ -7,7 +7,8 @@ ghost use Rattle.log_block.specs.Writing.{fits, so_far};
 
 use crate::parts::{Block, NOTE, Record, TRIAL};
 
-// What is written stands up to the place, and zeros after it.
+// What is written stands up to the place, and zeros after it. The place stands beside the lent block, and no `Vec` grows: a logger has
+// no heap.
 #[derive(Drop)]
 pub(crate) struct Draft<'b> {
     block: &'b mut Block,

@@ -6,7 +6,8 @@ ghost use Rattle.log_block.specs.Reading.{left_to_read, seen_at, seen_both, seen
 use crate::faults::RecordFault;
 use crate::parts::{NOTE, Placed, Record, TRIAL};
 
-// The records of a checked block that have still to be handed out.
+// The records of a checked block that have still to be handed out. Their count stands beside the bytes, since the bytes alone do not
+// tell where the records end.
 #[derive(Clone, Copy)]
 pub struct Records<'a> {
     pub(crate) rest: &'a [u8],

@@ -12,7 +12,8 @@ use crate::faults::BlockFault;
 use crate::parts::{Block, Record};
 use crate::sums::seal_block;
 
-// A trial as bytes: its tag, and its point's bytes in front. What lies past the bytes of its objectives is not looked at.
+// A trial as bytes: its tag, and its point's bytes in front. What lies past the bytes of its objectives is not looked at. An array, and
+// no `Vec`: a logger has no heap.
 #[derive(Clone, Copy)]
 pub struct TrialBytes {
     pub tag: u32,

@@ -1,5 +1,5 @@
 // A space whose points are also bytes: exactly four an objective, the highest byte of each figure first.
-ghost use Rattle.std.specs.Prelude.{◌≡◌, ◌≤◌, true, length, take};
+ghost use Rattle.std.specs.Prelude.{◌≡◌, ◌-◌, ◌≤◌, true, drop, length, replicate, take};
 ghost use Rattle.space.specs.Recording.{Recording, Faithful, FourEach, WritableIfAdmitted, as_wide, blank_point, read_answer, read_point, write_answer, written_over};
 
 use crate::meaning::Space;
@@ -55,19 +55,21 @@ pub fn blank<S: Recorded>(space: &S) -> S::Point
     space.read(&[]).unwrap_or_else(|unread| unread.blank)
 }
 
-// Writes the point over the front of a longer part.
+// Writes the point over the front of a longer part, and leaves the rest.
 fn write_front<S: Recorded>(space: &S, p: &S::Point, width: usize, out: &mut [u8])
     requires { (width ≡ (S.Recorded.recording space.now).width) × (width ≤ length out.old) }
     ensures front { take width out.new ≡ (S.Recorded.recording space.now).writes p.now }
+    ensures rest { drop width out.new ≡ drop width out.old }
     ensures writable { WritableIfAdmitted (S.Space.meaning space.now) (S.Recorded.recording space.now) p.now }
 {
     let _ = space.write(p, &mut out[0..width]);
 }
 
-// The bytes of a point, in front: no point takes more than 24. It serves whoever has no part of the right length at hand,
-// and tells of every admitted point that it is writable.
+// The bytes of a point, in front, and zeros after them: no point takes more than 24, and a logger has no heap for a `Vec`. It serves
+// whoever has no part of the right length at hand, and tells of every admitted point that it is writable.
 pub fn point_bytes<S: Recorded>(space: &S, p: &S::Point) -> [u8; 24]
     ensures front { take (S.Recorded.recording space.now).width result ≡ (S.Recorded.recording space.now).writes p.now }
+    ensures rest { drop (S.Recorded.recording space.now).width result ≡ replicate (24 - (S.Recorded.recording space.now).width) 0 }
     ensures writable { WritableIfAdmitted (S.Space.meaning space.now) (S.Recorded.recording space.now) p.now }
 {
     let mut bytes = [0; 24];
