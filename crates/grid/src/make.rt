@@ -1,7 +1,7 @@
 // Making the rules of a grid from its scales.
 ghost use Rattle.std.specs.Prelude.{◌≡◌, map, length, take, if◌then◌else◌, Some, None, MatchResult};
 ghost use Rattle.space.specs.declared.refusal.BadGrid.TheVariants.{Objective};
-ghost use Rattle.grid.specs.Making.{grid_fault};
+ghost use Rattle.grid.specs.Making.{grid_fault, six_rules};
 
 use crate::axis::Axis;
 use space::BadGrid;
@@ -16,7 +16,7 @@ fn rule_of<A: Axis>(scale: A::Scale, objective: u8) -> Result<A, BadGrid>
 // The rules of these scales, one an objective, or the fault of the lowest objective that has one.
 // The places past the last objective repeat the first rule.
 pub fn rules<A: Axis>(scales: &[A::Scale]) -> Result<[A; 6], BadGrid>
-    ensures { MatchResult result (λ axes. (grid_fault A.Axis.sound scales.now ≡ None) × (map A.Axis.line (take (length scales.now) axes) ≡ map A.Axis.rule scales.now)) (λ e. grid_fault A.Axis.sound scales.now ≡ Some e) }
+    ensures { MatchResult result (λ axes. (grid_fault A.Axis.sound scales.now ≡ None) × (map A.Axis.line (take (length scales.now) axes) ≡ map A.Axis.rule scales.now) × (map A.Axis.line axes ≡ six_rules (map A.Axis.rule scales.now))) (λ e. grid_fault A.Axis.sound scales.now ≡ Some e) }
 {
     if scales.is_empty() || scales.len() > 6 {
         return Err(BadGrid::Objectives);

@@ -17,7 +17,7 @@ returns-in_err-axes g c =
 pub loop-i-init : goal.loop-i-init
 loop-i-init g c =
     let one : 1 ≤ length c.args.scales.now = search rules in
-    made_more g.A.Axis.sound g.A.Axis.rule g.A.Axis.line c.args.scales.now c.if-scales-gt6.false (replicate 6 c.in_ok-first.first) 0 c.index-scales-0.result c.in_ok-first.first one c.index-scales-0.is c.in_ok-first.ensures (made_none g.A.Axis.sound g.A.Axis.rule g.A.Axis.line c.args.scales.now c.if-scales-gt6.false c.in_ok-first.first)
+    made_more g.A.Axis.sound g.A.Axis.rule g.A.Axis.line c.args.scales.now c.if-scales-gt6.false (replicate 6 c.in_ok-first.first) 0 c.index-scales-0.result c.in_ok-first.first one c.index-scales-0.is c.in_ok-first.ensures (made_none g.A.Axis.sound g.A.Axis.rule g.A.Axis.line c.args.scales.now c.if-scales-gt6.false c.index-scales-0.result c.in_ok-first.first one c.index-scales-0.is c.in_ok-first.ensures)
 
 pub loop-i-preserved : goal.loop-i-preserved
 loop-i-preserved g c =
