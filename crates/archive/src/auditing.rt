@@ -1,6 +1,5 @@
 // Audit: the first two rows that may not be members together.
 ghost use Rattle.std.specs.Prelude.{◌≡◌, []};
-ghost use Rattle.std.specs.List.{position};
 ghost use Rattle.history.specs.Auditing.{clash, first_pair};
 ghost use Rattle.archive.specs.Auditing.{AuditRight};
 ghost use Rattle.archive.specs.Lent.{lending};
@@ -17,29 +16,29 @@ impl<S: Space> Boxed<'_, S> {
     {
         self.compare(&other.point).is_some()
     }
-
-    // Which of these trials is the first that clashes with this one.
-    fn first_clash(&self, others: &[Trial<S::Point>]) -> Option<usize>
-        ensures { result ≡ position (clash (S.Space.meaning self.now.space.now) self.now.trial) others.now }
-    {
-        others.iter().position(|other| self.clashes(other))
-    }
 }
 
-// The first pair of rows at fault: the lowest row, and with it the lowest one from it on.
+// The first pair of rows at fault: the lowest row, and with it the lowest one from it on. Two nested loops that a label is left by:
+// a form that the project names.
 fn first_fault<S: Space>(space: &S, members: &[Trial<S::Point>]) -> Option<(usize, usize)>
     ensures { result ≡ first_pair (S.Space.meaning space.now) members.now }
 {
-    for (i, row) in members.iter().enumerate() {
+    let mut found = None;
+    'rows: for (i, row) in members.iter().enumerate() {
         if !space.admits(&row.point) {
-            return Some((i, i));
+            found = Some((i, i));
+            break 'rows;
         }
+        let boxed = Boxed::new(space, *row);
         let after = i + 1;
-        if let Some(k) = Boxed::new(space, *row).first_clash(&members[after..]) {
-            return Some((i, after + k));
+        for (k, other) in members[after..].iter().enumerate() {
+            if boxed.clashes(other) {
+                found = Some((i, after + k));
+                break 'rows;
+            }
         }
     }
-    None
+    found
 }
 
 impl<S: Space> Archive<S> {
