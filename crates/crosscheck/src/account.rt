@@ -1,37 +1,20 @@
 // The account of what was tried.
+use crate::denial::Denial;
 use crate::tally::Tally;
+use crate::verdict::Verdict;
 use std::io;
-
-// What the verdicts are called. The words stand apart from the counts, since a tally is filled before any of them is said.
-const VERDICTS: [&str; 4] = ["passed over", "entered", "displaced", "replaced"];
-
-// What the denials are called.
-const DENIALS: [&str; 15] = [
-    "none",
-    "no rows",
-    "overlong",
-    "strange rows",
-    "short list",
-    "off the grid",
-    "full",
-    "bad grid",
-    "too many",
-    "wrong length",
-    "torn",
-    "strange block",
-    "other grid",
-    "bad record",
-    "no such block",
-];
 
 // The verdicts and the denials, each with how often it occurred.
 fn print_numbers(rt: &HostRuntime, tally: &Tally) -> io::Result<()> {
-    for (number, (word, count)) in VERDICTS.iter().zip(tally.verdicts.iter()).enumerate() {
-        println!(rt; "verdict {number} {word}: {count}")?;
+    for verdict in Verdict::ALL {
+        let number = verdict.number();
+        let count = tally.of_verdict(verdict);
+        println!(rt; "verdict {number} {verdict}: {count}")?;
     }
-    let denials = DENIALS.iter().zip(tally.denials.iter()).enumerate();
-    for (number, (word, count)) in denials.skip(1) {
-        println!(rt; "denial {number} {word}: {count}")?;
+    for denial in Denial::ALL {
+        let number = denial.number();
+        let count = tally.of_denial(denial);
+        println!(rt; "denial {number} {denial}: {count}")?;
     }
     Ok(())
 }
@@ -63,15 +46,16 @@ pub(crate) fn print_account(rt: &HostRuntime, tally: &Tally) -> io::Result<()> {
 
 // Each verdict and each denial that did not occur.
 pub(crate) fn print_missing(rt: &HostRuntime, tally: &Tally) -> io::Result<()> {
-    for (number, (word, count)) in VERDICTS.iter().zip(tally.verdicts.iter()).enumerate() {
-        if *count == 0 {
-            println!(rt; "missing: verdict {number} {word}")?;
+    for verdict in Verdict::ALL {
+        if tally.of_verdict(verdict) == 0 {
+            let number = verdict.number();
+            println!(rt; "missing: verdict {number} {verdict}")?;
         }
     }
-    let denials = DENIALS.iter().zip(tally.denials.iter()).enumerate();
-    for (number, (word, count)) in denials.skip(1) {
-        if *count == 0 {
-            println!(rt; "missing: denial {number} {word}")?;
+    for denial in Denial::ALL {
+        if tally.of_denial(denial) == 0 {
+            let number = denial.number();
+            println!(rt; "missing: denial {number} {denial}")?;
         }
     }
     Ok(())

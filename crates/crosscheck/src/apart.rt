@@ -1,13 +1,30 @@
 // Where the two archives are apart.
-use crate::second::Told;
+use crate::told::Told;
 use std::alloc::{AllocError, AllocFailed};
+use std::error::Error;
+use std::fmt;
 
-// What differs, at which call or which round of arbitrary rows if at one, and what each archive told there.
+// When in a history something was found: at a call, or in a round of arbitrary rows.
+#[derive(Clone, Copy, Debug)]
+pub(crate) enum Moment {
+    Call(usize),
+    Round(usize),
+}
+
+impl fmt::Display for Moment {
+    fn fmt<W: fmt::Write>(&self, f: &mut fmt::Formatter<W>) -> fmt::Result {
+        match self {
+            Moment::Call(call) => write!(f, "at call {call}"),
+            Moment::Round(round) => write!(f, "in round {round} of arbitrary rows"),
+        }
+    }
+}
+
+// What differs, at which moment if at one, and what each archive told there.
 #[derive(Clone, Copy, Debug)]
 pub(crate) struct Apart {
     pub what: &'static str,
-    pub call: Option<usize>,
-    pub round: Option<usize>,
+    pub moment: Option<Moment>,
     pub told: Option<(Told, Told)>,
 }
 
@@ -17,6 +34,39 @@ pub(crate) enum Stop {
     Apart(Apart),
     Memory,
 }
+
+impl Stop {
+    // The archives differ in this.
+    pub(crate) fn apart(what: &'static str) -> Stop {
+        Stop::Apart(Apart {
+            what,
+            moment: None,
+            told: None,
+        })
+    }
+
+    // The same, found at this moment.
+    pub(crate) fn at(self, moment: Moment) -> Stop {
+        match self {
+            Stop::Apart(apart) => Stop::Apart(Apart {
+                moment: Some(moment),
+                ..apart
+            }),
+            Stop::Memory => Stop::Memory,
+        }
+    }
+}
+
+impl fmt::Display for Stop {
+    fn fmt<W: fmt::Write>(&self, f: &mut fmt::Formatter<W>) -> fmt::Result {
+        f.write_str(match self {
+            Stop::Apart(_) => "the two archives disagree",
+            Stop::Memory => "there is not enough memory",
+        })
+    }
+}
+
+impl Error for Stop {}
 
 impl From<AllocError> for Stop {
     fn from(_failed: AllocError) -> Stop {
@@ -30,56 +80,23 @@ impl<T: Drop> From<AllocFailed<T>> for Stop {
     }
 }
 
-// Goes on where this holds.
+// Goes on where this holds: a condition, as an assertion has one.
 pub(crate) fn same(holds: bool, what: &'static str) -> Result<(), Stop> {
     if holds {
         Ok(())
     } else {
-        Err(Stop::Apart(Apart {
-            what,
-            call: None,
-            round: None,
-            told: None,
-        }))
+        Err(Stop::apart(what))
     }
 }
 
 // Goes on where both archives told the same.
 pub(crate) fn same_told(first: Told, second: Told, what: &'static str) -> Result<(), Stop> {
     if first == second {
-        Ok(())
-    } else {
-        Err(Stop::Apart(Apart {
-            what,
-            call: None,
-            round: None,
-            told: Some((first, second)),
-        }))
+        return Ok(());
     }
-}
-
-// The same, found at this call.
-pub(crate) fn at_call(stop: Stop, call: usize) -> Stop {
-    match stop {
-        Stop::Apart(apart) => Stop::Apart(Apart {
-            what: apart.what,
-            call: Some(call),
-            round: None,
-            told: apart.told,
-        }),
-        Stop::Memory => Stop::Memory,
-    }
-}
-
-// The same, found in this round of arbitrary rows.
-pub(crate) fn in_round(stop: Stop, round: usize) -> Stop {
-    match stop {
-        Stop::Apart(apart) => Stop::Apart(Apart {
-            what: apart.what,
-            call: None,
-            round: Some(round),
-            told: apart.told,
-        }),
-        Stop::Memory => Stop::Memory,
-    }
+    Err(Stop::Apart(Apart {
+        what,
+        moment: None,
+        told: Some((first, second)),
+    }))
 }

@@ -1,14 +1,75 @@
 // The blocks of the second archive: how it reads and writes them, byte by byte.
+use crate::denial::Denial;
+use crate::failed::Failed;
 use crate::figures::{PLACES, Point, Rule, Rules, objectives};
 use crate::second::Member;
 use std::alloc::{AllocError, Global};
 
-// What is wrong with a block: its number, the layer that it is found in, and the place.
+// How long a block is, where its records begin, and where the sums stand behind them.
+pub(crate) const BLOCK: usize = 512;
+
+pub(crate) const RECORDS: usize = 8;
+
+pub(crate) const SUMS: usize = 508;
+
+// How many bytes a record has in front of a trial's figures: its kind, its length and the tag.
+const BEFORE_FIGURES: usize = 6;
+
+// What finds a fault: the check of a block as a whole, the check of its records, or the archive.
+#[derive(Clone, Copy)]
+pub(crate) enum Layer {
+    Block = 1,
+    Record = 2,
+    Archive = 3,
+}
+
+// What is wrong with a block, as it is told: its number, the number of the layer that it is found in, and the place.
 #[derive(Clone, Copy, PartialEq, Eq, Debug)]
 pub(crate) struct Fault {
     pub number: u8,
     pub layer: u8,
     pub place: usize,
+}
+
+impl Fault {
+    // What is denied for this, in this layer and at this place.
+    pub(crate) fn new(denial: Denial, layer: Layer, place: usize) -> Fault {
+        Fault {
+            number: denial.number(),
+            layer: layer as u8,
+            place,
+        }
+    }
+}
+
+// What a record holds, with the byte that says so.
+#[derive(Clone, Copy, PartialEq, Eq)]
+pub(crate) enum Kind {
+    Trial = 1,
+    Note = 2,
+}
+
+impl Kind {
+    // The byte of this kind.
+    pub(crate) fn byte(self) -> u8 {
+        self as u8
+    }
+
+    // The kind of this byte.
+    fn of_byte(byte: u8) -> Option<Kind> {
+        match byte {
+            1 => Some(Kind::Trial),
+            2 => Some(Kind::Note),
+            _ => None,
+        }
+    }
+}
+
+// A record: what it holds, and where it ends.
+#[derive(Clone, Copy)]
+struct Record {
+    kind: Kind,
+    after: usize,
 }
 
 // A trial that a block carries, and the place of its record.
@@ -34,11 +95,11 @@ fn word_at(bytes: &[u8], place: usize) -> u32 {
     ])
 }
 
-// The sum of the first 508 bytes, and the sum of the values that it has on its way, each as two bytes.
+// The sum of the bytes in front of the sums, and the sum of the values that it has on its way, each as two bytes.
 fn check_bytes(bytes: &[u8]) -> [u8; 4] {
     let mut a = 0u32;
     let mut b = 0u32;
-    for byte in bytes.iter().take(508) {
+    for byte in bytes.iter().take(SUMS) {
         a = a.wrapping_add(u32::from(*byte));
         b = b.wrapping_add(a);
     }
@@ -48,51 +109,77 @@ fn check_bytes(bytes: &[u8]) -> [u8; 4] {
 }
 
 // The check of everything but the records.
-fn check_head(rules: &Rules, bytes: &[u8]) -> Option<Fault> {
-    let fault = |number, place| {
-        Some(Fault {
-            number,
-            layer: 1,
-            place,
-        })
-    };
-    if bytes.len() != 512 {
-        return fault(9, 0);
+fn check_head(rules: &Rules, bytes: &[u8]) -> Result<(), Fault> {
+    let fault = |denial, place| Err(Fault::new(denial, Layer::Block, place));
+    if bytes.len() != BLOCK {
+        return fault(Denial::WrongLength, 0);
     }
-    if word_at(bytes, 508) != u32::from_be_bytes(check_bytes(bytes)) {
-        return fault(10, 508);
+    if word_at(bytes, SUMS) != u32::from_be_bytes(check_bytes(bytes)) {
+        return fault(Denial::Torn, SUMS);
     }
     if byte_at(bytes, 0) != 1 {
-        return fault(11, 0);
+        return fault(Denial::StrangeBlock, 0);
     }
     if byte_at(bytes, 3) != 0 {
-        return fault(11, 3);
+        return fault(Denial::StrangeBlock, 3);
     }
     if usize::from(byte_at(bytes, 2)) != objectives(rules) {
-        return fault(12, 2);
+        return fault(Denial::OtherGrid, 2);
     }
-    None
+    Ok(())
+}
+
+// How many bytes the figures of a point take: four for each objective.
+pub(crate) fn figures_length(rules: &Rules) -> usize {
+    objectives(rules).saturating_mul(4)
+}
+
+// The length that the record of a trial says: the tag and the figures.
+pub(crate) fn trial_length(rules: &Rules) -> usize {
+    figures_length(rules).saturating_add(4)
+}
+
+// The record in this place.
+fn record_at(rules: &Rules, bytes: &[u8], place: usize) -> Result<Record, Fault> {
+    let bad = Fault::new(Denial::BadRecord, Layer::Record, place);
+    let kind = Kind::of_byte(byte_at(bytes, place)).ok_or(bad)?;
+    let length = usize::from(byte_at(bytes, place.saturating_add(1)));
+    let after = place.saturating_add(2).saturating_add(length);
+    if after > SUMS || (kind == Kind::Trial && length != trial_length(rules)) {
+        return Err(bad);
+    }
+    Ok(Record { kind, after })
+}
+
+// The figure that a number of 32 bits says.
+fn figure_of(rule: &Rule, word: u32) -> i64 {
+    match rule {
+        Rule::Step(_) => i64::from(word.cast_signed()),
+        Rule::Ratio(_) => i64::from(word),
+    }
 }
 
 // The point that the bytes from this place on say: four bytes for each objective.
 fn point_at(rules: &Rules, bytes: &[u8], place: usize) -> Point {
+    let (_, figures) = bytes.split_at(place.min(bytes.len()));
     let mut point = [0; PLACES];
-    let mut at = place;
-    for (figure, rule) in point.iter_mut().zip(rules) {
-        let word = word_at(bytes, at);
-        match rule {
-            Rule::Unused => {}
-            Rule::Step { .. } => {
-                *figure = i64::from(word.cast_signed());
-                at = at.saturating_add(4);
-            }
-            Rule::Ratio { .. } => {
-                *figure = i64::from(word);
-                at = at.saturating_add(4);
-            }
-        }
+    let used = point
+        .iter_mut()
+        .zip(rules)
+        .filter_map(|(figure, rule)| rule.map(|rule| (figure, rule)));
+    for ((figure, rule), word) in used.zip(figures.chunks(4)) {
+        *figure = figure_of(&rule, word_at(word, 0));
     }
     point
+}
+
+// Goes on where nothing follows the last record, which ends here.
+fn check_tail(bytes: &[u8], end: usize) -> Result<(), Fault> {
+    let mut tail = bytes.iter().enumerate().take(SUMS).skip(end);
+    match tail.find(|(_, byte)| **byte != 0) {
+        Some((place, _)) => Err(Fault::new(Denial::BadRecord, Layer::Record, place)),
+        None => Ok(()),
+    }
 }
 
 // The trials of a block in their order, or what is wrong with it.
@@ -100,42 +187,23 @@ pub(crate) fn read_block(
     heap: Global,
     rules: &Rules,
     bytes: &[u8],
-) -> Result<Result<Vec<Found>, Fault>, AllocError> {
-    if let Some(fault) = check_head(rules, bytes) {
-        return Ok(Err(fault));
-    }
-    let long = objectives(rules).saturating_mul(4).saturating_add(4);
+) -> Result<Vec<Found>, Failed<Fault>> {
+    check_head(rules, bytes)?;
     let mut trials = Vec::new(heap);
-    let mut place = 8usize;
+    let mut place = RECORDS;
     for _ in 0..byte_at(bytes, 1) {
-        let kind = byte_at(bytes, place);
-        let length = usize::from(byte_at(bytes, place.saturating_add(1)));
-        let after = place.saturating_add(2).saturating_add(length);
-        if after > 508 || (kind != 1 && kind != 2) || (kind == 1 && length != long) {
-            return Ok(Err(Fault {
-                number: 13,
-                layer: 2,
-                place,
-            }));
-        }
-        if kind == 1 {
+        let record = record_at(rules, bytes, place)?;
+        if record.kind == Kind::Trial {
             trials.push(Found {
                 tag: word_at(bytes, place.saturating_add(2)),
-                point: point_at(rules, bytes, place.saturating_add(6)),
+                point: point_at(rules, bytes, place.saturating_add(BEFORE_FIGURES)),
                 place,
             })?;
         }
-        place = after;
+        place = record.after;
     }
-    let tail = bytes.iter().enumerate().take(508).skip(place);
-    Ok(match tail.filter(|(_, byte)| **byte != 0).next() {
-        Some((place, _)) => Err(Fault {
-            number: 13,
-            layer: 2,
-            place,
-        }),
-        None => Ok(trials),
-    })
+    check_tail(bytes, place)?;
+    Ok(trials)
 }
 
 // Writes some bytes after the others.
@@ -156,7 +224,7 @@ pub(crate) fn figures_bytes(
     block: &mut Vec<u8>,
 ) -> Result<(), AllocError> {
     for (rule, figure) in rules.iter().zip(point) {
-        if rule.is_used() {
+        if rule.is_some() {
             put(block, &figure_bytes(*figure))?;
         }
     }
@@ -165,8 +233,8 @@ pub(crate) fn figures_bytes(
 
 // How many trials a block has room for.
 pub(crate) fn trials_to_a_block(rules: &Rules) -> usize {
-    let each = objectives(rules).saturating_mul(4).saturating_add(6);
-    500usize.checked_div(each).unwrap_or(0)
+    let each = figures_length(rules).saturating_add(BEFORE_FIGURES);
+    SUMS.saturating_sub(RECORDS).checked_div(each).unwrap_or(0)
 }
 
 // The block of these members with this number.
@@ -178,15 +246,16 @@ pub(crate) fn write_block(
 ) -> Result<Vec<u8>, AllocError> {
     let count = u8::try_from(members.len()).unwrap_or(0);
     let m = u8::try_from(objectives(rules)).unwrap_or(0);
+    let length = u8::try_from(trial_length(rules)).unwrap_or(0);
     let mut block = Vec::new(heap);
     put(&mut block, &[1, count, m, 0])?;
     put(&mut block, &number.to_be_bytes())?;
     for member in members {
-        put(&mut block, &[1, m.saturating_mul(4).saturating_add(4)])?;
+        put(&mut block, &[Kind::Trial.byte(), length])?;
         put(&mut block, &member.tag.to_be_bytes())?;
         figures_bytes(rules, &member.point, &mut block)?;
     }
-    block.resize(508, 0)?;
+    block.resize(SUMS, 0)?;
     let sums = check_bytes(block.as_slice());
     put(&mut block, &sums)?;
     Ok(block)

@@ -1,8 +1,10 @@
 // Between the figures of the second archive and the points and answers of the first.
 use crate::blocks::Fault;
 use crate::figures::Point;
-use crate::second::Told;
-use history::{Answer, Denial, Fed, FeedFault, Offered};
+use crate::narrow::{Narrow, narrowed};
+use crate::told::{Fed, NotRestored, Told};
+use archive::RestoreFault;
+use history::{Answer, Denial, FeedFault, Offered};
 use log_block::Report;
 
 // A point of the first archive's spaces, told by its figures.
@@ -10,33 +12,6 @@ pub(crate) trait Figured: Copy {
     fn of_figures(figures: &Point) -> Self;
 
     fn figures(&self) -> Point;
-}
-
-// Six figures of one kind.
-pub(crate) trait Six: Copy {
-    fn narrowed(figures: [i64; 6]) -> Self;
-
-    fn widened(&self) -> [i64; 6];
-}
-
-impl Six for [i32; 6] {
-    fn narrowed(figures: [i64; 6]) -> [i32; 6] {
-        figures.map(|figure| i32::try_from(figure).unwrap_or(0))
-    }
-
-    fn widened(&self) -> [i64; 6] {
-        self.map(i64::from)
-    }
-}
-
-impl Six for [u32; 6] {
-    fn narrowed(figures: [i64; 6]) -> [u32; 6] {
-        figures.map(|figure| u32::try_from(figure).unwrap_or(0))
-    }
-
-    fn widened(&self) -> [i64; 6] {
-        self.map(i64::from)
-    }
 }
 
 // The figures of the first six places.
@@ -58,80 +33,123 @@ fn together(front: [i64; 6], back: [i64; 6]) -> Point {
     [a, b, c, d, e, f, g, h, i, j, k, l]
 }
 
-impl<A: Six> Figured for A {
-    fn of_figures(figures: &Point) -> A {
-        A::narrowed(front(figures))
+// Six figures in 32 bits. They are written out, as above, since a `map` to or from a type parameter gets no proof.
+fn narrow_six<N: Narrow>(figures: [i64; 6]) -> [N; 6] {
+    let [a, b, c, d, e, f] = figures;
+    [
+        narrowed(a),
+        narrowed(b),
+        narrowed(c),
+        narrowed(d),
+        narrowed(e),
+        narrowed(f),
+    ]
+}
+
+// Six figures of 32 bits as whole numbers.
+fn wide_six<N: Narrow>(figures: [N; 6]) -> [i64; 6] {
+    let [a, b, c, d, e, f] = figures;
+    [a.into(), b.into(), c.into(), d.into(), e.into(), f.into()]
+}
+
+impl<A: Narrow> Figured for [A; 6] {
+    fn of_figures(figures: &Point) -> [A; 6] {
+        narrow_six(front(figures))
     }
 
     fn figures(&self) -> Point {
-        together(self.widened(), [0; 6])
+        together(wide_six(*self), [0; 6])
     }
 }
 
-impl<A: Six, B: Six> Figured for (A, B) {
-    fn of_figures(figures: &Point) -> (A, B) {
-        (A::narrowed(front(figures)), B::narrowed(back(figures)))
+impl<A: Narrow, B: Narrow> Figured for ([A; 6], [B; 6]) {
+    fn of_figures(figures: &Point) -> ([A; 6], [B; 6]) {
+        (narrow_six(front(figures)), narrow_six(back(figures)))
     }
 
     fn figures(&self) -> Point {
-        together(self.0.widened(), self.1.widened())
+        together(wide_six(self.0), wide_six(self.1))
     }
 }
 
 // A fault in plain numbers.
-pub(crate) fn fault_of(report: Report) -> Fault {
-    Fault {
-        number: report.number,
-        layer: report.layer,
-        place: report.place,
+impl From<Report> for Fault {
+    fn from(report: Report) -> Fault {
+        Fault {
+            number: report.number,
+            layer: report.layer,
+            place: report.place,
+        }
     }
 }
 
-// What a call told: what it was granted, or the number of its denial.
-pub(crate) fn told<T, F: FnOnce(T) -> Told>(said: Result<T, Denial>, granted: F) -> Told
-    requires { F.IsAlwaysCallable granted }
-{
-    said.map_or_else(|denial| Told::Denied(denial.number()), granted)
-}
-
 // How an offered trial fared, in plain numbers.
-pub(crate) fn told_offered(offered: Offered) -> Told {
-    Told::Judged {
-        verdict: offered.verdict.number(),
-        displaced: offered.displaced,
+impl From<Offered> for Told {
+    fn from(offered: Offered) -> Told {
+        Told::Judged {
+            verdict: offered.verdict.number(),
+            displaced: offered.displaced,
+        }
     }
 }
 
 // What a feed came to.
-pub(crate) fn told_fed(fed: Fed) -> Told {
-    Told::Fed {
-        entered: fed.entered,
-        passed: fed.passed,
-        denied: fed.denied,
-        displaced: fed.displaced,
-        first: fed.first.map(|denied| fault_of(denied.report())),
+impl From<history::Fed> for Fed {
+    fn from(fed: history::Fed) -> Fed {
+        Fed {
+            entered: fed.entered,
+            passed: fed.passed,
+            denied: fed.denied,
+            displaced: fed.displaced,
+            first: fed.first.map(|denied| Fault::from(denied.report())),
+        }
+    }
+}
+
+// What a call was denied for.
+impl From<Denial> for Told {
+    fn from(denial: Denial) -> Told {
+        Told::Denied(denial.number())
     }
 }
 
 // What a feed was refused for.
-fn told_refused(fault: FeedFault) -> Told {
-    Told::Refused(fault_of(fault.report()))
+impl From<FeedFault> for Told {
+    fn from(fault: FeedFault) -> Told {
+        Told::Refused(Fault::from(fault.report()))
+    }
 }
 
-// What a feed told.
-pub(crate) fn told_feed(said: Result<Fed, FeedFault>) -> Told {
-    said.map_or_else(told_refused, told_fed)
+// Why the first archive is not restored.
+impl From<RestoreFault> for NotRestored {
+    fn from(fault: RestoreFault) -> NotRestored {
+        match fault {
+            RestoreFault::Denied(denial) => NotRestored::Denied(denial.number()),
+            RestoreFault::Block { index, fault } => {
+                NotRestored::Block(index, Fault::from(fault.report()))
+            }
+        }
+    }
+}
+
+// What a call told: what it was granted, or why it was not.
+pub(crate) fn told<T, E: Into<Told>, F: FnOnce(T) -> Told>(said: Result<T, E>, granted: F) -> Told
+    requires { F.IsAlwaysCallable granted }
+{
+    said.map_or_else(|denied| denied.into(), granted)
 }
 
 // What any call told, as a replay writes it beside the call.
-pub(crate) fn told_answer(answer: Answer) -> Told {
-    match answer {
-        Answer::Offered(offered) => told_offered(offered),
-        Answer::Fed(fed) => told_fed(fed),
-        Answer::Audited(pair) => Told::Audited(pair),
-        Answer::Listed(count) => Told::Listed(count),
-        Answer::Saved(count) => Told::Saved(count),
-        Answer::Denied(denial) => Told::Denied(denial.number()),
-        Answer::Refused(fault) => told_refused(fault),
+impl From<Answer> for Told {
+    fn from(answer: Answer) -> Told {
+        match answer {
+            Answer::Offered(offered) => Told::from(offered),
+            Answer::Fed(fed) => Told::Fed(Fed::from(fed)),
+            Answer::Audited(pair) => Told::Audited(pair),
+            Answer::Listed(count) => Told::Listed(count),
+            Answer::Saved(count) => Told::Saved(count),
+            Answer::Denied(denial) => Told::from(denial),
+            Answer::Refused(fault) => Told::from(fault),
+        }
     }
 }

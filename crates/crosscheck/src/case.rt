@@ -1,10 +1,12 @@
 // One history over one of the first archive's spaces: what every comparison of the two archives is given.
+use crate::denial::Denial;
 use crate::figures::Rules;
 use crate::histories::History;
 use crate::second::Second;
 use std::alloc::Global;
 
-// The space that the first archive is made for, the same as rules for the second, and the history.
+// The space that the first archive is made for, the same as rules for the second, and the history. What is compared over it are
+// methods, each in the file of what it compares.
 #[derive(Clone, Copy)]
 pub(crate) struct Case<'a, S> {
     pub heap: Global,
@@ -13,19 +15,19 @@ pub(crate) struct Case<'a, S> {
     pub history: &'a History,
 }
 
-// The case of a history over this space.
-pub(crate) fn case_of<S>(heap: Global, space: S, history: &History) -> Case<'_, S> {
-    Case {
-        heap,
-        space,
-        rules: history.scales.rules(),
-        history,
-    }
-}
-
 impl<'a, S> Case<'a, S> {
-    // The second archive over as many rows, with no members, or the number of the denial.
-    pub(crate) fn second(&self) -> Result<Second, u8> {
+    // The case of a history over this space.
+    pub(crate) fn new(heap: Global, space: S, history: &'a History) -> Case<'a, S> {
+        Case {
+            heap,
+            space,
+            rules: history.scales.rules(),
+            history,
+        }
+    }
+
+    // The second archive over as many rows, with no members.
+    pub(crate) fn second(&self) -> Result<Second, Denial> {
         Second::new(self.heap, self.rules, self.history.rows)
     }
 }

@@ -1,10 +1,17 @@
 // Numbers by chance, the same from the same seed.
 
-// Where the row of numbers is, never zero; and whether the points of the history lie along a front, so that many stand together.
+// How the points of a history lie: anywhere, or mostly along a front, so that many stand together.
+#[derive(Clone, Copy, PartialEq, Eq)]
+pub(crate) enum Spread {
+    Anywhere,
+    Front,
+}
+
+// Where the row of numbers is, never zero; and how the points lie that are made by it.
 #[derive(Clone, Copy)]
 pub(crate) struct Chance {
     state: u64,
-    pub front: bool,
+    pub spread: Spread,
 }
 
 impl Chance {
@@ -15,7 +22,7 @@ impl Chance {
             .wrapping_add(number.wrapping_mul(0xd1b5_4a32_d192_ed03));
         let mut chance = Chance {
             state: mixed | 1,
-            front: false,
+            spread: Spread::Anywhere,
         };
         for _ in 0..8 {
             chance.next();
@@ -55,5 +62,10 @@ impl Chance {
     // A byte.
     pub(crate) fn byte(&mut self) -> u8 {
         u8::try_from(self.below(256)).unwrap_or(0)
+    }
+
+    // Whether the points are to lie along a front.
+    pub(crate) fn is_front(&self) -> bool {
+        self.spread == Spread::Front
     }
 }

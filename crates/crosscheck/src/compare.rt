@@ -1,77 +1,63 @@
 // One call on both archives, and everything that it answers and writes compared.
 use crate::apart::{Stop, same, same_told};
 use crate::bridge::Figured;
-use crate::histories::{Call, History};
-use crate::house::{Lent, ask, rows_lent};
+use crate::case::Case;
+use crate::figures::Point;
+use crate::histories::Call;
+use crate::house::{Lent, Sizes, ask};
 use crate::replays::Both;
-use crate::second::{Member, Reply, Second, Told};
+use crate::reply::{Reply, Written, reply_of};
+use crate::second::{Member, Second};
 use crate::tally::Tally;
+use crate::told::Told;
 use space::{Recorded, Trial};
-use std::alloc::{AllocError, Global};
-
-// How much the calls of a history can be lent.
-#[derive(Clone, Copy)]
-pub(crate) struct Sizes {
-    own: usize,
-    more: usize,
-    block: usize,
-}
-
-// The sizes for a history, as its rows, list and block are made.
-pub(crate) fn sizes_of(history: &History) -> Sizes {
-    Sizes {
-        own: history.rows,
-        more: history.rows.saturating_add(2),
-        block: 520,
-    }
-}
+use std::alloc::AllocError;
 
 // A call on the second archive.
 pub(crate) fn answer(second: &mut Second, sizes: &Sizes, call: &Call) -> Result<Reply, AllocError> {
-    let lent = |want: usize| rows_lent(sizes.own, sizes.more, want);
     match call {
         Call::Offer {
             rows,
             room,
             tag,
             point,
-        } => second.offer(lent(*rows), (*room).min(sizes.more), *tag, point),
-        Call::Feed { rows, block } => second.feed(lent(*rows), block.as_slice()),
-        Call::Audit { rows } => Ok(second.audit(lent(*rows))),
-        Call::List { rows, room } => second.list(lent(*rows), (*room).min(sizes.more)),
+        } => {
+            let said = second.offer(sizes.rows(*rows), (*room).min(sizes.more), *tag, point);
+            reply_of(said, Reply::judged)
+        }
+        Call::Feed { rows, block } => {
+            reply_of(second.feed(sizes.rows(*rows), block.as_slice()), Reply::fed)
+        }
+        Call::Audit { rows } => reply_of(second.audit(sizes.rows(*rows)), Reply::audited),
+        Call::List { rows, room } => {
+            let said = second.list(sizes.rows(*rows), (*room).min(sizes.more));
+            reply_of(said, Reply::listed)
+        }
         Call::Save { rows, number, size } => {
-            second.save(lent(*rows), *number, (*size).min(sizes.block))
+            let said = second.save(sizes.rows(*rows), *number, (*size).min(sizes.block));
+            reply_of(said, Reply::saved)
         }
     }
 }
 
-// Whether rows hold these members, each point with its own tag, in order.
-pub(crate) fn hold_members<P: Figured>(rows: &[Trial<P>], members: &[Member]) -> bool {
-    rows.len() == members.len()
-        && rows.iter().zip(members).all(|(row, member)| row.tag == member.tag
-            && row.point.figures() == member.point)
+// A row by its tag and its figures, since a point of any space has these alone.
+fn plain<P: Figured>(row: &Trial<P>) -> (u32, Point) {
+    (row.tag, row.point.figures())
+}
+
+// Whether the first rows, so many, hold these members, each point with its own tag, in order.
+pub(crate) fn hold_members<P: Figured>(
+    rows: &[Trial<P>],
+    count: usize,
+    members: &[Member],
+) -> bool {
+    let held = rows.iter().take(count).map(plain);
+    held.eq(members.iter().map(|member| (member.tag, member.point)))
 }
 
 // Whether rows hold what others hold.
 pub(crate) fn same_rows<P: Figured>(rows: &[Trial<P>], others: &[Trial<P>]) -> bool {
-    rows.len() == others.len()
-        && rows.iter().zip(others).all(|(row, other)| row.tag == other.tag
-            && row.point.figures() == other.point.figures())
-}
-
-// A copy of rows.
-fn copy_of<T: Copy>(heap: Global, rows: &[T]) -> Result<Vec<T>, AllocError> {
-    rows.iter().copied().collect(heap)
-}
-
-// A copy of all that is lent.
-fn lent_before<P: Figured>(heap: Global, lent: &Lent<P>) -> Result<Lent<P>, AllocError> {
-    Ok(Lent {
-        own: copy_of(heap, lent.own.as_slice())?,
-        strange: copy_of(heap, lent.strange.as_slice())?,
-        list: copy_of(heap, lent.list.as_slice())?,
-        block: copy_of(heap, lent.block.as_slice())?,
-    })
+    rows.iter().map(plain).eq(others.iter().map(plain))
 }
 
 // How often a tag is among these.
@@ -79,43 +65,49 @@ fn times(tags: &[u32], tag: u32) -> usize {
     tags.iter().filter(|other| **other == tag).count()
 }
 
-// Whether the front of the list has these tags, in their order or in any, and the rest is as it was.
-fn list_fits(before: &[u32], after: &[u32], tags: &[u32], ordered: bool) -> bool {
-    if before.len() != after.len() || after.len() < tags.len() {
-        return false;
-    }
-    let (front, rest) = after.split_at(tags.len());
-    let (_, rest_before) = before.split_at(tags.len());
-    if rest != rest_before {
-        return false;
-    }
-    if ordered {
-        front == tags
-    } else {
-        tags.iter()
-            .all(|tag| times(front, *tag) == times(tags, *tag))
+// Whether the front, this long, is as it should be, and the rest as it was.
+fn front_fits<T: Eq, F: FnOnce(&[T]) -> bool>(
+    before: &[T],
+    after: &[T],
+    long: usize,
+    fits: F,
+) -> bool
+    requires { F.IsAlwaysCallable fits }
+{
+    match (before.split_at_checked(long), after.split_at_checked(long)) {
+        (Some((_, rest_before)), Some((front, rest))) => rest == rest_before && fits(front),
+        _ => false,
     }
 }
 
-// Whether the front of the lent block is the block that was written, if one was, and the rest is as it was.
-fn block_fits(before: &[u8], after: &[u8], written: &Option<Vec<u8>>) -> bool {
+// Whether the list has the tags that were written, if some were, and the rest is as it was.
+fn list_fits(before: &[u32], after: &[u32], written: &Written) -> bool {
     match written {
-        None => before == after,
-        Some(block) => {
-            if before.len() != after.len() || after.len() < block.len() {
-                return false;
-            }
-            let (front, rest) = after.split_at(block.len());
-            let (_, rest_before) = before.split_at(block.len());
-            front == block.as_slice() && rest == rest_before
+        Written::Tags(tags) => front_fits(before, after, tags.len(), |front| {
+            let tags = tags.as_slice();
+            tags.iter()
+                .all(|tag| times(front, *tag) == times(tags, *tag))
+        }),
+        Written::List(tags) => {
+            front_fits(before, after, tags.len(), |front| front == tags.as_slice())
         }
+        Written::Nothing | Written::Block(_) => before == after,
     }
 }
 
-// The rows that hold members.
-pub(crate) fn front<P: Copy>(rows: &[Trial<P>], count: usize) -> &[Trial<P>] {
-    let (members, _) = rows.split_at(count.min(rows.len()));
-    members
+// Whether the lent block has the block that was written, if one was, and the rest is as it was.
+fn block_fits(before: &[u8], after: &[u8], written: &Written) -> bool {
+    match written {
+        Written::Block(block) => {
+            front_fits(
+                before,
+                after,
+                block.len(),
+                |front| front == block.as_slice(),
+            )
+        }
+        Written::Nothing | Written::Tags(_) | Written::List(_) => before == after,
+    }
 }
 
 // Whether this told of a refusal.
@@ -133,7 +125,7 @@ fn hold_writes<P: Figured>(
 ) -> Result<(), Stop> {
     let own = after.own.as_slice();
     same(
-        hold_members(front(own, count), members),
+        hold_members(own, count, members),
         "the members, or their tags, or their order",
     )?;
     same(
@@ -144,13 +136,11 @@ fn hold_writes<P: Figured>(
         same_rows(after.strange.as_slice(), before.strange.as_slice()),
         "strange rows that a call altered",
     )?;
-    let ordered = matches!(reply.told, Told::Listed(_));
     same(
         list_fits(
             before.list.as_slice(),
             after.list.as_slice(),
-            reply.tags.as_slice(),
-            ordered,
+            &reply.written,
         ),
         "the tags in the list",
     )?;
@@ -158,31 +148,32 @@ fn hold_writes<P: Figured>(
         block_fits(
             before.block.as_slice(),
             after.block.as_slice(),
-            &reply.block,
+            &reply.written,
         ),
         "the bytes of the block",
     )
 }
 
-// One call on both.
-pub(crate) fn hold_call<S: Recorded>(
-    heap: Global,
-    both: &mut Both<S>,
-    sizes: &Sizes,
-    call: &Call,
-    tally: &mut Tally,
-) -> Result<Told, Stop>
+impl<S: Recorded> Case<'_, S>
 where
     S::Point: Figured,
 {
-    let before = lent_before(heap, &both.lent)?;
-    let told = ask(&mut both.archive, &mut both.lent, call);
-    let reply = answer(&mut both.second, sizes, call)?;
-    let count = both.archive.count();
-    let members = both.second.members.as_slice();
-    tally.told(&reply.told);
-    same_told(told, reply.told, "the answers")?;
-    same(count == members.len(), "the number of members")?;
-    hold_writes(&before, &both.lent, count, &reply, members)?;
-    Ok(told)
+    // One call on both.
+    pub(crate) fn hold_call(
+        &self,
+        both: &mut Both<S>,
+        call: &Call,
+        tally: &mut Tally,
+    ) -> Result<Told, Stop> {
+        let before = both.lent.clone()?;
+        let told = ask(&mut both.archive, &mut both.lent, call);
+        let reply = answer(&mut both.second, &Sizes::of(self.history), call)?;
+        let count = both.archive.count();
+        let members = both.second.members.as_slice();
+        tally.told(&reply.told);
+        same_told(told, reply.told, "the answers")?;
+        same(count == members.len(), "the number of members")?;
+        hold_writes(&before, &both.lent, count, &reply, members)?;
+        Ok(told)
+    }
 }

@@ -1,8 +1,9 @@
 // Blocks made up by chance: sound ones, and ones with one or two things wrong.
-use crate::blocks::{figures_bytes, put};
+use crate::blocks::{BLOCK, Kind, RECORDS, SUMS, figures_bytes, figures_length, put, trial_length};
 use crate::chance::Chance;
 use crate::figures::{Point, Rules, objectives};
-use crate::making::{point_by, tag_by};
+use crate::making::tag_by;
+use crate::source::Source;
 use log_block::seal;
 use std::alloc::{AllocError, Global};
 
@@ -13,30 +14,58 @@ fn set(block: &mut Vec<u8>, place: usize, byte: u8) {
     }
 }
 
-// A block that is being filled: its bytes so far, how many records they have, and where the last one begins.
+// A block that is being filled: its bytes so far, and where its last record begins.
 #[derive(Drop)]
 struct Filling {
     bytes: Vec<u8>,
-    records: u8,
     last: usize,
 }
 
 impl Filling {
+    // A block with no records and any number.
+    fn new(heap: Global, chance: &mut Chance, rules: &Rules) -> Result<Filling, AllocError> {
+        let mut bytes = Vec::new(heap);
+        put(&mut bytes, &[1, 0])?;
+        put(
+            &mut bytes,
+            &[u8::try_from(objectives(rules)).unwrap_or(0), 0],
+        )?;
+        for _ in 0..4 {
+            bytes.push(chance.byte())?;
+        }
+        Ok(Filling {
+            bytes,
+            last: RECORDS,
+        })
+    }
+
     // How many bytes there still are for records.
     fn room(&self) -> usize {
-        508usize.saturating_sub(self.bytes.len())
+        SUMS.saturating_sub(self.bytes.len())
+    }
+
+    // How many records there are.
+    fn records(&self) -> u8 {
+        self.bytes.get(1).copied().unwrap_or(0)
+    }
+
+    // One record more, which begins here.
+    fn begin(&mut self, kind: Kind, length: usize) -> Result<(), AllocError> {
+        self.last = self.bytes.len();
+        let records = self.records().saturating_add(1);
+        set(&mut self.bytes, 1, records);
+        put(
+            &mut self.bytes,
+            &[kind.byte(), u8::try_from(length).unwrap_or(0)],
+        )
     }
 
     // A trial, if there is room.
     fn trial(&mut self, rules: &Rules, tag: u32, point: &Point) -> Result<(), AllocError> {
-        let width = objectives(rules).saturating_mul(4);
-        if self.room() >= width.saturating_add(6) {
-            self.last = self.bytes.len();
-            let length = u8::try_from(width.saturating_add(4)).unwrap_or(0);
-            put(&mut self.bytes, &[1, length])?;
+        if self.room() >= figures_length(rules).saturating_add(6) {
+            self.begin(Kind::Trial, trial_length(rules))?;
             put(&mut self.bytes, &tag.to_be_bytes())?;
             figures_bytes(rules, point, &mut self.bytes)?;
-            self.records = self.records.saturating_add(1);
         }
         Ok(())
     }
@@ -44,153 +73,102 @@ impl Filling {
     // A note of so many bytes, if there is room.
     fn note(&mut self, chance: &mut Chance, length: usize) -> Result<(), AllocError> {
         if self.room() >= length.saturating_add(2) && length <= 255 {
-            self.last = self.bytes.len();
-            put(&mut self.bytes, &[2, u8::try_from(length).unwrap_or(0)])?;
+            self.begin(Kind::Note, length)?;
             for _ in 0..length {
                 self.bytes.push(chance.byte())?;
             }
-            self.records = self.records.saturating_add(1);
+        }
+        Ok(())
+    }
+
+    // One thing wrong with the block, whose records end here; it is sealed again after it.
+    fn damage(&mut self, chance: &mut Chance, end: usize) {
+        let byte = chance.byte();
+        let records = self.records();
+        let (place, byte) = match chance.below(12) {
+            0 => (0, byte),
+            1 => (3, byte),
+            2 => (2, byte),
+            3 => (2, byte % 8),
+            4 => (self.last, byte % 5),
+            5 => (self.last.saturating_add(1), byte),
+            6 => (1, records.wrapping_add(1)),
+            7 => (1, records.wrapping_sub(1)),
+            8 => {
+                let after = chance.size(SUMS.saturating_sub(end));
+                (end.saturating_add(after), byte)
+            }
+            9 => (507, byte),
+            _ => (chance.size(500).saturating_add(8), byte),
+        };
+        set(&mut self.bytes, place, byte)
+    }
+
+    // A byte more or fewer, a byte of another value, or nothing but zeros: the block is not sealed again.
+    fn tear(&mut self, chance: &mut Chance) -> Result<(), AllocError> {
+        match chance.below(5) {
+            0 => {
+                let length = chance.size(513);
+                self.bytes.truncate(length);
+            }
+            1 => self.bytes.push(0)?,
+            2 => {
+                self.bytes.fill(0);
+            }
+            3 => {
+                let place = chance.size(4).saturating_add(SUMS);
+                let byte = chance.byte();
+                set(&mut self.bytes, place, byte);
+            }
+            _ => {
+                let place = chance.size(BLOCK);
+                let byte = chance.byte();
+                set(&mut self.bytes, place, byte);
+            }
         }
         Ok(())
     }
 }
 
-// The point with one figure moved by one, so that it may be better or worse within a box.
-fn nudged(chance: &mut Chance, rules: &Rules, point: Point) -> Point {
-    let mut point = point;
-    let i = chance.size(12);
-    if i < 12 && rules[i].is_used() {
-        let figure = point[i].saturating_add(chance.between(-1, 1));
-        if rules[i].admits(figure) {
-            point[i] = figure;
+impl Source<'_> {
+    // Fills a block with trials and notes: a few, or at times as many as there is room for, to the last byte.
+    fn fill(&mut self) -> Result<Filling, AllocError> {
+        let mut filling = Filling::new(self.heap, &mut self.chance, self.rules)?;
+        let whole = self.chance.once_in(8);
+        let wanted = if whole { 60 } else { self.chance.size(8) };
+        for _ in 0..wanted {
+            if self.chance.once_in(6) {
+                let length = self.chance.size(20);
+                filling.note(&mut self.chance, length)?;
+            } else {
+                let point = self.some_point();
+                filling.trial(self.rules, tag_by(&mut self.chance), &point)?;
+            }
         }
+        if whole {
+            let rest = filling.room().saturating_sub(2);
+            filling.note(&mut self.chance, rest)?;
+        }
+        Ok(filling)
     }
-    point
-}
 
-// A point: one of the history's, one near it, or a new one.
-pub(crate) fn some_point(chance: &mut Chance, rules: &Rules, points: &[Point]) -> Point {
-    let at = chance.size(points.len());
-    match (chance.below(7), points.get(at)) {
-        (0, Some(point)) => *point,
-        (1..4, Some(point)) => nudged(chance, rules, *point),
-        _ => point_by(chance, rules),
-    }
-}
-
-// Fills a block with trials and notes: a few, or at times as many as there is room for, to the last byte.
-fn fill(
-    heap: Global,
-    chance: &mut Chance,
-    rules: &Rules,
-    points: &[Point],
-) -> Result<Filling, AllocError> {
-    let mut filling = Filling {
-        bytes: Vec::new(heap),
-        records: 0,
-        last: 8,
-    };
-    put(&mut filling.bytes, &[1, 0])?;
-    put(
-        &mut filling.bytes,
-        &[u8::try_from(objectives(rules)).unwrap_or(0), 0],
-    )?;
-    for _ in 0..4 {
-        filling.bytes.push(chance.byte())?;
-    }
-    let whole = chance.once_in(8);
-    let wanted = if whole { 60 } else { chance.size(8) };
-    for _ in 0..wanted {
-        if chance.once_in(6) {
-            let length = chance.size(20);
-            filling.note(chance, length)?;
-        } else {
-            let point = some_point(chance, rules, points);
-            filling.trial(rules, tag_by(chance), &point)?;
-        }
-    }
-    if whole {
-        let rest = filling.room().saturating_sub(2);
-        filling.note(chance, rest)?;
-    }
-    Ok(filling)
-}
-
-// One thing wrong with the block, which is sealed again after it.
-fn damage(chance: &mut Chance, block: &mut Vec<u8>, last: usize, end: usize) {
-    let byte = chance.byte();
-    let count = block.get(1).copied().unwrap_or(0);
-    match chance.below(12) {
-        0 => set(block, 0, byte),
-        1 => set(block, 3, byte),
-        2 => set(block, 2, byte),
-        3 => set(block, 2, byte % 8),
-        4 => set(block, last, byte % 5),
-        5 => set(block, last.saturating_add(1), byte),
-        6 => set(block, 1, count.wrapping_add(1)),
-        7 => set(block, 1, count.wrapping_sub(1)),
-        8 => {
-            let after = chance.size(508usize.saturating_sub(end));
-            set(block, end.saturating_add(after), byte)
-        }
-        9 => set(block, 507, byte),
-        _ => {
-            let place = chance.size(500).saturating_add(8);
-            set(block, place, byte)
-        }
-    }
-}
-
-// A byte more or fewer, a byte of another value, or nothing but zeros: the block is not sealed again.
-fn tear(chance: &mut Chance, block: &mut Vec<u8>) -> Result<(), AllocError> {
-    match chance.below(5) {
-        0 => {
-            let length = chance.size(513);
-            block.truncate(length);
-        }
-        1 => block.push(0)?,
-        2 => {
-            block.fill(0);
-        }
-        3 => {
-            let place = chance.size(4).saturating_add(508);
-            let byte = chance.byte();
-            set(block, place, byte);
-        }
-        _ => {
-            let place = chance.size(512);
-            let byte = chance.byte();
-            set(block, place, byte);
-        }
-    }
-    Ok(())
-}
-
-// A block of 512 bytes, and mostly a sound one.
-pub(crate) fn block_by(
-    heap: Global,
-    chance: &mut Chance,
-    rules: &Rules,
-    points: &[Point],
-) -> Result<Vec<u8>, AllocError> {
-    let Filling {
-        bytes,
-        records,
-        last,
-    } = fill(heap, chance, rules, points)?;
-    let mut block = bytes;
-    let end = block.len();
-    set(&mut block, 1, records);
-    block.resize(512, 0)?;
-    if chance.once_in(3) {
-        damage(chance, &mut block, last, end);
+    // A block of 512 bytes, and mostly a sound one.
+    pub(crate) fn block(&mut self) -> Result<Vec<u8>, AllocError> {
+        let mut filling = self.fill()?;
+        let end = filling.bytes.len();
+        filling.bytes.resize(BLOCK, 0)?;
+        let chance = &mut self.chance;
         if chance.once_in(3) {
-            damage(chance, &mut block, last, end);
+            filling.damage(chance, end);
+            if chance.once_in(3) {
+                filling.damage(chance, end);
+            }
         }
+        let _ = seal(filling.bytes.as_mut_slice());
+        if chance.once_in(8) {
+            filling.tear(chance)?;
+        }
+        let Filling { bytes, last: _ } = filling;
+        Ok(bytes)
     }
-    let _ = seal(block.as_mut_slice());
-    if chance.once_in(8) {
-        tear(chance, &mut block)?;
-    }
-    Ok(block)
 }

@@ -1,4 +1,5 @@
 // Histories: a space, so many rows, and calls with what each is to be lent.
+use crate::chance::Chance;
 use crate::figures::{Point, Rule, Rules};
 use std::array;
 
@@ -59,6 +60,8 @@ pub(crate) struct History {
     pub calls: Vec<Call>,
     // points to fill rows with, and to ask the space about
     pub points: Vec<Point>,
+    // what rows are filled by that come from no history
+    pub fillings: Chance,
     // how many rows there are to restore to
     pub restore_rows: usize,
     // a block that the restore is given in front of the others, if any
@@ -74,7 +77,7 @@ impl Scales {
             } else {
                 self.second.get(i - 6)
             };
-            rule.copied().unwrap_or(Rule::Unused)
+            rule.copied()
         })
     }
 }

@@ -1,14 +1,42 @@
 // The first archive, asked by its own calls, with what it is lent.
-use crate::bridge::{Figured, told, told_feed, told_offered};
-use crate::figures::Point;
-use crate::histories::Call;
-use crate::second::Told;
+use crate::bridge::{Figured, told};
+use crate::figures::{PLACES, Point};
+use crate::histories::{Call, History};
+use crate::told::{Fed, Told};
 use archive::Archive;
 use space::{Recorded, Trial};
 use std::alloc::{AllocError, Global};
 
+// How much the calls of a history can be lent: the archive's own rows, strange rows and a list, and a block.
+#[derive(Clone, Copy)]
+pub(crate) struct Sizes {
+    own: usize,
+    pub more: usize,
+    pub block: usize,
+}
+
+impl Sizes {
+    // As much as every call of this history may ask for.
+    pub(crate) fn of(history: &History) -> Sizes {
+        Sizes {
+            own: history.rows,
+            more: history.rows.saturating_add(2),
+            block: 520,
+        }
+    }
+
+    // How many rows are lent where so many are wanted: the archive's own or strange ones.
+    pub(crate) fn rows(&self, want: usize) -> usize {
+        if want == self.own {
+            self.own
+        } else {
+            want.min(self.more)
+        }
+    }
+}
+
 // What the calls of a history are lent: the archive's own rows, strange rows, a list and a block.
-#[derive(Drop)]
+#[derive(Clone, Drop)]
 pub(crate) struct Lent<P: Copy> {
     pub own: Vec<Trial<P>>,
     pub strange: Vec<Trial<P>>,
@@ -30,23 +58,17 @@ pub(crate) fn rows_of<P: Figured>(
     Ok(vec![in heap; row; count]?)
 }
 
-// As much to lend as every call of a history over so many rows may ask for.
-pub(crate) fn lent_of<P: Figured>(heap: Global, rows: usize) -> Result<Lent<P>, AllocError> {
-    let more = rows.saturating_add(2);
+// What is lent, before any call.
+pub(crate) fn lent_of<P: Figured>(heap: Global, sizes: &Sizes) -> Result<Lent<P>, AllocError> {
     Ok(Lent {
-        own: rows_of(heap, rows, 7, &[0; 12])?,
-        strange: rows_of(heap, more, 9, &[1; 12])?,
-        list: vec![in heap; 77; more]?,
-        block: vec![in heap; 88; 520]?,
+        own: rows_of(heap, sizes.own, 7, &[0; PLACES])?,
+        strange: rows_of(heap, sizes.more, 9, &[1; PLACES])?,
+        list: vec![in heap; 77; sizes.more]?,
+        block: vec![in heap; 88; sizes.block]?,
     })
 }
 
-// How many rows are lent where so many are wanted: the archive's own or strange ones.
-pub(crate) fn rows_lent(own: usize, strange: usize, want: usize) -> usize {
-    if want == own { own } else { want.min(strange) }
-}
-
-// Those rows.
+// The rows that are lent where so many are wanted. Both kinds are parameters, since a call borrows the list or the block beside them.
 fn rows_for<'a, P: Copy>(
     own: &'a mut Vec<Trial<P>>,
     strange: &'a mut Vec<Trial<P>>,
@@ -82,11 +104,14 @@ where
             let room = (*room).min(lent.list.len());
             let rows = rows_for(&mut lent.own, &mut lent.strange, *rows);
             let said = archive.offer(trial, rows, &mut lent.list.as_mut_slice()[..room]);
-            told(said, told_offered)
+            told(said, Told::from)
         }
         Call::Feed { rows, block } => {
             let rows = rows_for(&mut lent.own, &mut lent.strange, *rows);
-            told_feed(archive.feed(block.as_slice(), rows))
+            told(
+                archive.feed(block.as_slice(), rows),
+                |fed| Told::Fed(Fed::from(fed)),
+            )
         }
         Call::Audit { rows } => {
             let rows = rows_for(&mut lent.own, &mut lent.strange, *rows);

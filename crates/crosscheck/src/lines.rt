@@ -1,23 +1,22 @@
 // A history as lines of text, and where the archives were found apart.
 use crate::apart::Apart;
-use crate::figures::{Point, Rule};
+use crate::figures::{Point, Ratios, Rule, Steps};
 use crate::histories::{Call, History};
+use crate::told::Told;
 use std::io;
 
 // One rule.
 fn print_rule(rt: &HostRuntime, rule: &Rule) -> io::Result<()> {
     match rule {
-        Rule::Unused => println!(rt; "unused"),
-        Rule::Step {
-            smaller,
-            low,
-            high,
-            step,
-        } => {
-            let better = if *smaller { "smaller" } else { "larger" };
-            println!(rt; "step, {better} is better, from {low} to {high} by {step}")
-        }
-        Rule::Ratio { per_cent, ceiling } => {
+        Rule::Step(
+            Steps {
+                better,
+                low,
+                high,
+                step,
+            },
+        ) => println!(rt; "step, {better} is better, from {low} to {high} by {step}"),
+        Rule::Ratio(Ratios { per_cent, ceiling }) => {
             println!(rt; "ratio, {per_cent} per cent, up to {ceiling}")
         }
     }
@@ -90,19 +89,24 @@ pub(crate) fn print_history(rt: &HostRuntime, history: &History) -> io::Result<(
     Ok(())
 }
 
+// What one archive told. What a feed came to has its own name in front already.
+fn print_told(rt: &HostRuntime, archive: &str, told: &Told) -> io::Result<()> {
+    match told {
+        Told::Fed(fed) => println!(rt; "the {archive} tells {fed:?}"),
+        _ => println!(rt; "the {archive} tells {told:?}"),
+    }
+}
+
 // Where the archives are apart.
 pub(crate) fn print_apart(rt: &HostRuntime, apart: &Apart) -> io::Result<()> {
     let what = apart.what;
     println!(rt; "the archives are apart: {what}")?;
-    if let Some(call) = apart.call {
-        println!(rt; "at call {call}")?;
+    if let Some(moment) = apart.moment {
+        println!(rt; "{moment}")?;
     }
-    if let Some(round) = apart.round {
-        println!(rt; "in round {round} of arbitrary rows")?;
-    }
-    if let Some((first, second)) = apart.told {
-        println!(rt; "the first tells {first:?}")?;
-        println!(rt; "the second tells {second:?}")?;
+    if let Some((first, second)) = &apart.told {
+        print_told(rt, "first", first)?;
+        print_told(rt, "second", second)?;
     }
     Ok(())
 }

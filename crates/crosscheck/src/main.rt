@@ -13,24 +13,30 @@ mod case;
 mod chance;
 mod compare;
 mod damaging;
+mod denial;
+mod failed;
 mod figures;
 mod histories;
 mod house;
 mod lines;
 mod making;
 mod named;
+mod narrow;
 mod questions;
 mod replays;
+mod reply;
 mod restores;
 mod second;
+mod source;
 mod spaces;
 mod tally;
+mod told;
+mod verdict;
 
 use account::{print_account, print_missing};
 use anyhow::anyhow;
 use apart::Stop;
 use calling::history_by;
-use chance::Chance;
 use histories::History;
 use lines::{print_apart, print_history};
 use named::{log_history, named_histories};
@@ -64,64 +70,50 @@ fn run_one(rt: &HostRuntime, seed: u64, number: u64) -> anyhow::Result<()> {
     let history = history_by(rt.alloc(), seed, number)?;
     println!(rt; "history {seed} {number}")?;
     print_history(rt, &history)?;
-    let mut tally = Tally::new();
-    let held = hold_history(
-        rt.alloc(),
-        &history,
-        &mut Chance::new(number, seed),
-        &mut tally,
-    );
-    match held {
-        Ok(()) => Ok(println!(rt; "the archives agree")?),
-        Err(stop) => tell(rt, stop),
-    }
+    hold_history(rt.alloc(), &history, &mut Tally::default()).or_else(|stop| tell(rt, stop))?;
+    println!(rt; "the archives agree")?;
+    Ok(())
 }
 
 // What ends a run early.
 fn tell(rt: &HostRuntime, stop: Stop) -> anyhow::Result<()> {
-    match stop {
-        Stop::Memory => Err(anyhow!("there is not enough memory")),
-        Stop::Apart(apart) => {
-            print_apart(rt, &apart)?;
-            Err(anyhow!("the two archives disagree"))
-        }
+    if let Stop::Apart(apart) = &stop {
+        print_apart(rt, apart)?;
     }
+    Err(stop.into())
 }
 
-// A history that has a name.
+// A history that has a name; where the archives are apart it is printed.
 fn run_named(
     rt: &HostRuntime,
     name: &str,
     history: &History,
     tally: &mut Tally,
 ) -> anyhow::Result<()> {
-    match hold_history(rt.alloc(), history, &mut Chance::new(0, 0), tally) {
-        Ok(()) => Ok(println!(rt; "case: {name}")?),
-        Err(stop) => {
-            println!(rt; "case: {name}")?;
-            print_history(rt, history)?;
-            tell(rt, stop)
-        }
+    let held = hold_history(rt.alloc(), history, tally);
+    println!(rt; "case: {name}")?;
+    if let Err(stop) = held {
+        print_history(rt, history)?;
+        tell(rt, stop)?;
     }
+    Ok(())
 }
 
 // The history of this number; where the archives are apart it is printed.
 fn run_number(rt: &HostRuntime, number: u64, tally: &mut Tally) -> anyhow::Result<()> {
     let history = history_by(rt.alloc(), SEED, number)?;
-    match hold_history(rt.alloc(), &history, &mut Chance::new(number, SEED), tally) {
-        Ok(()) => Ok(()),
-        Err(stop) => {
-            println!(rt; "history {SEED} {number}")?;
-            print_history(rt, &history)?;
-            tell(rt, stop)
-        }
+    if let Err(stop) = hold_history(rt.alloc(), &history, tally) {
+        println!(rt; "history {SEED} {number}")?;
+        print_history(rt, &history)?;
+        tell(rt, stop)?;
     }
+    Ok(())
 }
 
 // All histories: those with a name, the log, and those made up by chance.
 fn run_all(rt: &HostRuntime) -> anyhow::Result<()> {
     println!(rt; "crosscheck 1")?;
-    let mut tally = Tally::new();
+    let mut tally = Tally::default();
     for case in named_histories(rt.alloc())?.iter() {
         run_named(rt, case.name, &case.history, &mut tally)?;
     }

@@ -1,18 +1,9 @@
 // Spaces and points made up by chance: points on every edge of a box, at the ends of the grid and off it.
 use crate::chance::Chance;
-use crate::figures::{PLACES, Point, Rule, Rules, edge_after};
+use crate::figures::{Better, PLACES, Point, Ratios, Rule, Rules, Steps, edge_after};
 use crate::histories::{Kind, Scales, Shape};
+use crate::narrow::narrowed;
 use std::alloc::{AllocError, Global};
-
-// A whole number as one of 32 bits.
-fn signed(number: i64) -> i32 {
-    i32::try_from(number).unwrap_or(i32::MAX)
-}
-
-// A whole number as one of 32 bits without a sign.
-fn unsigned(number: i64) -> u32 {
-    u32::try_from(number.max(0)).unwrap_or(u32::MAX)
-}
 
 // A step rule with so many boxes.
 fn step_rule(chance: &mut Chance, boxes: i64) -> Rule {
@@ -22,19 +13,24 @@ fn step_rule(chance: &mut Chance, boxes: i64) -> Rule {
         _ => chance.between(1, 12),
     };
     let low = match chance.below(10) {
-        0 => -2_147_483_648,
+        0 => i64::from(i32::MIN),
         1 => 0,
         _ => chance.between(-40, 40),
     };
     let span = step
         .saturating_mul(boxes.saturating_sub(1))
         .saturating_add(chance.between(0, step.saturating_sub(1)));
-    Rule::Step {
-        smaller: chance.once_in(2),
-        low: signed(low),
-        high: signed(low.saturating_add(span)),
-        step: unsigned(step),
-    }
+    let better = if chance.once_in(2) {
+        Better::Smaller
+    } else {
+        Better::Larger
+    };
+    Rule::Step(Steps {
+        better,
+        low: narrowed(low),
+        high: narrowed(low.saturating_add(span)),
+        step: narrowed(step),
+    })
 }
 
 // The edge of this box.
@@ -48,7 +44,7 @@ fn ratio_rule(chance: &mut Chance, boxes: i64) -> Rule {
         0 => 100,
         1 => 1,
         2 => 50,
-        _ => unsigned(chance.between(1, 100)),
+        _ => narrowed(chance.between(1, 100)),
     };
     let last = edge_of(per_cent, boxes.saturating_sub(1)).min(1_000_000);
     let most = edge_after(per_cent, last).saturating_sub(1).min(1_000_000);
@@ -57,10 +53,10 @@ fn ratio_rule(chance: &mut Chance, boxes: i64) -> Rule {
     } else {
         chance.between(last, most)
     };
-    Rule::Ratio {
+    Rule::Ratio(Ratios {
         per_cent,
-        ceiling: unsigned(ceiling),
-    }
+        ceiling: narrowed(ceiling),
+    })
 }
 
 // How many boxes an objective is to have: few, so that trials meet, and at times very many.
@@ -71,14 +67,23 @@ fn boxes_for(chance: &mut Chance, objectives: usize) -> i64 {
     if objectives > 3 {
         return chance.between(1, 4);
     }
-    if chance.front || chance.once_in(5) {
+    if chance.is_front() || chance.once_in(5) {
         chance.between(30, 60)
     } else {
         chance.between(1, 8)
     }
 }
 
-// So many rules of one kind, of a space with so many objectives in all.
+// A rule of this kind, of a space with so many objectives in all.
+fn rule_by(chance: &mut Chance, shape: Shape, objectives: usize) -> Rule {
+    let boxes = boxes_for(chance, objectives);
+    match shape {
+        Shape::Step => step_rule(chance, boxes),
+        Shape::Ratio => ratio_rule(chance, boxes),
+    }
+}
+
+// So many rules of one kind.
 fn rules_of(
     heap: Global,
     chance: &mut Chance,
@@ -86,15 +91,9 @@ fn rules_of(
     count: usize,
     objectives: usize,
 ) -> Result<Vec<Rule>, AllocError> {
-    let mut rules = Vec::new(heap);
-    for _ in 0..count {
-        let boxes = boxes_for(chance, objectives);
-        rules.push(match shape {
-            Shape::Step => step_rule(chance, boxes),
-            Shape::Ratio => ratio_rule(chance, boxes),
-        })?;
-    }
-    Ok(rules)
+    (0..count)
+        .map(|_| rule_by(chance, shape, objectives))
+        .collect(heap)
 }
 
 // Which space: alone or side by side.
@@ -134,77 +133,70 @@ pub(crate) fn scales_by(heap: Global, chance: &mut Chance) -> Result<Scales, All
     }
 }
 
+// A step rule with something wrong, or so many boxes that it may be.
+fn bent_steps(chance: &mut Chance, steps: Steps) -> Steps {
+    match chance.below(5) {
+        0 => Steps {
+            low: steps.high.saturating_add(1),
+            ..steps
+        },
+        1 => Steps { step: 0, ..steps },
+        2 => Steps {
+            step: narrowed(chance.between(2_147_483_646, 2_147_483_649)),
+            ..steps
+        },
+        3 => {
+            let over = i64::from(steps.step)
+                .saturating_mul(1024)
+                .saturating_add(chance.between(-1, 0));
+            Steps {
+                high: narrowed(i64::from(steps.low).saturating_add(over)),
+                ..steps
+            }
+        }
+        _ => Steps {
+            low: i32::MIN,
+            high: i32::MAX,
+            step: narrowed(chance.between(4_194_303, 4_194_304)),
+            ..steps
+        },
+    }
+}
+
+// A ratio rule with something wrong, or so many boxes that it may be.
+fn bent_ratios(chance: &mut Chance, ratios: Ratios) -> Ratios {
+    match chance.below(5) {
+        0 => Ratios {
+            per_cent: 0,
+            ..ratios
+        },
+        1 => Ratios {
+            per_cent: narrowed(chance.between(100, 101)),
+            ..ratios
+        },
+        2 => Ratios {
+            ceiling: 0,
+            ..ratios
+        },
+        3 => Ratios {
+            per_cent: 100,
+            ceiling: narrowed(chance.between(1_000_000, 1_000_001)),
+        },
+        _ => {
+            let last = edge_of(1, 1024).saturating_add(chance.between(-1, 0));
+            Ratios {
+                per_cent: 1,
+                ceiling: narrowed(last.min(1_000_000)),
+            }
+        }
+    }
+}
+
 // A rule with something wrong, or so many boxes that it may be.
 fn bent_rule(chance: &mut Chance, rule: Rule) -> Rule {
     match rule {
-        Rule::Unused => Rule::Unused,
-        Rule::Step {
-            smaller,
-            low,
-            high,
-            step,
-        } => match chance.below(5) {
-            0 => Rule::Step {
-                smaller,
-                low: high.saturating_add(1),
-                high,
-                step,
-            },
-            1 => Rule::Step {
-                smaller,
-                low,
-                high,
-                step: 0,
-            },
-            2 => Rule::Step {
-                smaller,
-                low,
-                high,
-                step: unsigned(chance.between(2_147_483_646, 2_147_483_649)),
-            },
-            3 => Rule::Step {
-                smaller,
-                low,
-                high: signed(i64::from(low).saturating_add(
-                    i64::from(step)
-                        .saturating_mul(1024)
-                        .saturating_add(chance.between(-1, 0)),
-                )),
-                step,
-            },
-            _ => Rule::Step {
-                smaller,
-                low: i32::MIN,
-                high: i32::MAX,
-                step: unsigned(chance.between(4_194_303, 4_194_304)),
-            },
-        },
-        Rule::Ratio { per_cent, ceiling } => match chance.below(5) {
-            0 => Rule::Ratio {
-                per_cent: 0,
-                ceiling,
-            },
-            1 => Rule::Ratio {
-                per_cent: unsigned(chance.between(100, 101)),
-                ceiling,
-            },
-            2 => Rule::Ratio {
-                per_cent,
-                ceiling: 0,
-            },
-            3 => Rule::Ratio {
-                per_cent: 100,
-                ceiling: unsigned(chance.between(1_000_000, 1_000_001)),
-            },
-            _ => Rule::Ratio {
-                per_cent: 1,
-                ceiling: unsigned(
-                    edge_of(1, 1024)
-                        .saturating_add(chance.between(-1, 0))
-                        .min(1_000_000),
-                ),
-            },
-        },
+        Rule::Step(steps) => Rule::Step(bent_steps(chance, steps)),
+        Rule::Ratio(ratios) => Rule::Ratio(bent_ratios(chance, ratios)),
     }
 }
 
@@ -263,39 +255,30 @@ fn near(chance: &mut Chance, from: i64, to: i64) -> i64 {
 }
 
 // A figure for one place, at the box of this number and mostly on the grid.
-fn figure_by(chance: &mut Chance, rule: &Rule, number: i64) -> i64 {
+fn figure_by(chance: &mut Chance, rule: Option<Rule>, number: i64) -> i64 {
     let stays = !chance.once_in(40);
     match rule {
-        Rule::Unused => i64::from(chance.once_in(400)),
-        Rule::Step {
-            smaller,
-            low,
-            high,
-            step,
-        } => {
-            let from = number.saturating_mul(i64::from(*step));
-            let worth = near(chance, from, from.saturating_add(i64::from(*step)));
-            let figure = if *smaller {
-                i64::from(*high).saturating_sub(worth)
-            } else {
-                i64::from(*low).saturating_add(worth)
-            };
+        None => i64::from(chance.once_in(400)),
+        Some(Rule::Step(steps)) => {
+            let width = i64::from(steps.step);
+            let from = number.saturating_mul(width);
+            let figure = steps.figure_of(near(chance, from, from.saturating_add(width)));
             let figure = if stays {
-                figure.max(i64::from(*low)).min(i64::from(*high))
+                figure.max(i64::from(steps.low)).min(i64::from(steps.high))
             } else {
-                figure
+                figure.max(i64::from(i32::MIN))
             };
-            i64::from(signed(figure.max(-2_147_483_648)))
+            i64::from(narrowed::<i32>(figure))
         }
-        Rule::Ratio { per_cent, ceiling } => {
-            let from = edge_of(*per_cent, number);
-            let figure = near(chance, from, edge_after(*per_cent, from));
+        Some(Rule::Ratio(ratios)) => {
+            let from = edge_of(ratios.per_cent, number);
+            let figure = near(chance, from, edge_after(ratios.per_cent, from));
             let figure = if stays {
-                figure.max(1).min(i64::from(*ceiling))
+                figure.max(1).min(i64::from(ratios.ceiling))
             } else {
-                figure
+                figure.max(0)
             };
-            i64::from(unsigned(figure))
+            i64::from(narrowed::<u32>(figure))
         }
     }
 }
@@ -311,14 +294,14 @@ fn part(rule: &Rule, sixtieths: i64) -> i64 {
 
 // The box numbers of a point: any, or good in every second place by as much as bad in the others, so that many stand together.
 fn numbers_by(chance: &mut Chance, rules: &Rules) -> Point {
-    let trades = chance.front && !chance.once_in(50);
+    let trades = chance.is_front() && !chance.once_in(50);
     let mut sixtieths = chance.between(0, 60);
     let mut numbers = [0; PLACES];
     for (number, rule) in numbers.iter_mut().zip(rules) {
         if !trades {
             sixtieths = chance.between(0, 60);
         }
-        if rule.is_used() {
+        if let Some(rule) = rule {
             *number = part(rule, sixtieths);
             sixtieths = 60i64.saturating_sub(sixtieths);
         }
@@ -328,13 +311,13 @@ fn numbers_by(chance: &mut Chance, rules: &Rules) -> Point {
 
 // A point, mostly on the grid. Where there is one space alone, there are no figures of a second.
 pub(crate) fn point_by(chance: &mut Chance, rules: &Rules) -> Point {
-    let pair = rules.iter().skip(6).any(|rule| rule.is_used());
+    let pair = rules.iter().skip(6).any(|rule| rule.is_some());
     let numbers = numbers_by(chance, rules);
     let used = if pair { PLACES } else { 6 };
     let mut point = [0; PLACES];
     let places = rules.iter().zip(numbers.iter());
     for (figure, (rule, number)) in point.iter_mut().zip(places).take(used) {
-        *figure = figure_by(chance, rule, *number);
+        *figure = figure_by(chance, *rule, *number);
     }
     point
 }
@@ -343,7 +326,7 @@ pub(crate) fn point_by(chance: &mut Chance, rules: &Rules) -> Point {
 pub(crate) fn tag_by(chance: &mut Chance) -> u32 {
     match chance.below(20) {
         0 => u32::MAX,
-        1 => unsigned(chance.between(0, 4_294_967_295)),
-        _ => unsigned(chance.between(0, 30)),
+        1 => narrowed(chance.between(0, i64::from(u32::MAX))),
+        _ => narrowed(chance.between(0, 30)),
     }
 }

@@ -1,6 +1,7 @@
 // Histories that are tried by name.
+use crate::blocks::BLOCK;
 use crate::calling::history_of;
-use crate::figures::Rule;
+use crate::figures::{Better, Ratios, Rule, Steps};
 use crate::histories::{Call, History, Kind, Scales, Shape};
 use std::alloc::{AllocError, Global};
 
@@ -13,18 +14,15 @@ pub(crate) struct Named {
 
 // Two objectives from 0 up to the same high end, larger being better, in boxes of this width.
 fn square(heap: Global, high: i32, step: u32) -> Result<Scales, AllocError> {
-    let rule = Rule::Step {
-        smaller: false,
+    let rule = Rule::Step(Steps {
+        better: Better::Larger,
         low: 0,
         high,
         step,
-    };
-    let mut first = Vec::new(heap);
-    first.push(rule)?;
-    first.push(rule)?;
+    });
     Ok(Scales {
         kind: Kind::Alone(Shape::Step),
-        first,
+        first: vec![in heap; rule; 2]?,
         second: Vec::new(heap),
     })
 }
@@ -51,7 +49,7 @@ fn end(calls: &mut Vec<Call>, rows: usize) -> Result<(), AllocError> {
     calls.push(Call::Save {
         rows,
         number: 0,
-        size: 512,
+        size: BLOCK,
     })?;
     Ok(())
 }
@@ -73,61 +71,58 @@ fn over_square(
 
 // The histories that are tried by name, but for the log.
 pub(crate) fn named_histories(heap: Global) -> Result<Vec<Named>, AllocError> {
-    let mut all = Vec::new(heap);
-    all.push(over_square(
-        heap,
-        "the same point twice",
-        square(heap, 9, 1)?,
-        10,
-        &[(5, 5), (5, 5)],
-    )?)?;
-    all.push(over_square(
-        heap,
-        "member (19, 19) against (25, 12) over boxes of ten",
-        square(heap, 99, 10)?,
-        10,
-        &[(19, 19), (25, 12)],
-    )?)?;
-    all.push(over_square(
-        heap,
-        "one trial for two members",
-        square(heap, 9, 1)?,
-        10,
-        &[(1, 9), (3, 3), (5, 1), (9, 0), (6, 4)],
-    )?)?;
-    all.push(over_square(
-        heap,
-        "a full archive",
-        square(heap, 9, 1)?,
-        2,
-        &[(1, 9), (9, 0), (5, 5), (9, 1)],
-    )?)?;
-    Ok(all)
+    Ok(vec![in heap;
+        over_square(
+            heap,
+            "the same point twice",
+            square(heap, 9, 1)?,
+            10,
+            &[(5, 5), (5, 5)],
+        )?,
+        over_square(
+            heap,
+            "member (19, 19) against (25, 12) over boxes of ten",
+            square(heap, 99, 10)?,
+            10,
+            &[(19, 19), (25, 12)],
+        )?,
+        over_square(
+            heap,
+            "one trial for two members",
+            square(heap, 9, 1)?,
+            10,
+            &[(1, 9), (3, 3), (5, 1), (9, 0), (6, 4)],
+        )?,
+        over_square(
+            heap,
+            "a full archive",
+            square(heap, 9, 1)?,
+            2,
+            &[(1, 9), (9, 0), (5, 5), (9, 1)],
+        )?,
+    ]?)
 }
 
 // The log of these bytes, fed block by block to 32 rows over delay beside life, with an audit, a list and a save at the end.
 pub(crate) fn log_history(heap: Global, bytes: &[u8]) -> Result<History, AllocError> {
-    let mut first = Vec::new(heap);
-    first.push(Rule::Step {
-        smaller: true,
+    let delay = Rule::Step(Steps {
+        better: Better::Smaller,
         low: 0,
         high: 9999,
         step: 500,
-    })?;
-    let mut second = Vec::new(heap);
-    second.push(Rule::Ratio {
+    });
+    let life = Rule::Ratio(Ratios {
         per_cent: 50,
         ceiling: 1000,
-    })?;
+    });
     let scales = Scales {
         kind: Kind::Pair(Shape::Step, Shape::Ratio),
-        first,
-        second,
+        first: vec![in heap; delay]?,
+        second: vec![in heap; life]?,
     };
     let mut calls = Vec::new(heap);
-    for piece in bytes.chunks(512) {
-        let mut block = Vec::new(heap);
-        block.extend_from_slice(piece)?;
+    for piece in bytes.chunks(BLOCK) {
+        let block = piece.to_vec(heap)?;
         calls.push(Call::Feed { rows: 32, block })?;
     }
     end(&mut calls, 32)?;

@@ -1,12 +1,13 @@
 // A whole history on both archives: call by call, and by the two replays.
-use crate::apart::{Stop, at_call, same, same_told};
-use crate::bridge::{Figured, told_answer};
+use crate::apart::{Moment, Stop, same, same_told};
+use crate::bridge::Figured;
 use crate::case::Case;
-use crate::compare::{answer, front, hold_call, hold_members, same_rows, sizes_of};
+use crate::compare::{answer, hold_members, same_rows};
 use crate::histories::{Call, History};
-use crate::house::{Lent, lent_of};
-use crate::second::{Second, Told};
+use crate::house::{Lent, Sizes, lent_of};
+use crate::second::Second;
 use crate::tally::{Tally, one_more};
+use crate::told::Told;
 use archive::{Archive, Refused};
 use replay::{Ask, RecordedAsk, Turn, replay, replay_recorded};
 use space::{Recorded, Space, Trial};
@@ -19,55 +20,6 @@ pub(crate) struct Both<S: Space> {
     pub lent: Lent<S::Point>,
     pub second: Second,
     pub told: Vec<Told>,
-}
-
-// Both archives made, or none where both deny it alike.
-fn make_both<S: Recorded + Copy>(
-    case: &Case<'_, S>,
-    tally: &mut Tally,
-) -> Result<Option<Both<S>>, Stop>
-where
-    S::Point: Figured,
-{
-    let lent = lent_of::<S::Point>(case.heap, case.history.rows)?;
-    match (Archive::new(case.space, lent.own.as_slice()), case.second()) {
-        (Ok(archive), Ok(second)) => Ok(Some(Both {
-            archive,
-            lent,
-            second,
-            told: Vec::new(case.heap),
-        })),
-        (Err(refused), Err(number)) => {
-            same(refused.denial.number() == number, "the making's denial")?;
-            tally.denial(number);
-            Ok(None)
-        }
-        _ => {
-            same(false, "whether an archive is made")?;
-            Ok(None)
-        }
-    }
-}
-
-// Runs a history on both archives call by call; none where no archive is made.
-pub(crate) fn hold_calls<S: Recorded + Copy>(
-    case: &Case<'_, S>,
-    tally: &mut Tally,
-) -> Result<Option<Both<S>>, Stop>
-where
-    S::Point: Figured,
-{
-    let Some(mut both) = make_both(case, tally)? else {
-        return Ok(None);
-    };
-    let sizes = sizes_of(case.history);
-    for (i, call) in case.history.calls.iter().enumerate() {
-        let told = hold_call(case.heap, &mut both, &sizes, call, tally).map_err(|stop| at_call(
-            stop, i,
-        ))?;
-        both.told.push(told)?;
-    }
-    Ok(Some(both))
 }
 
 // What can be asked for of a replay, by the calls of a history; none where this replay has no such call.
@@ -125,71 +77,18 @@ impl<'a, P: Figured> AskOf<'a> for RecordedAsk<'a, P> {
 
 // The calls that can be asked for, not answered yet.
 fn turns_of<'a, A: AskOf<'a>>(heap: Global, calls: &'a [Call]) -> Result<Vec<Turn<A>>, AllocError> {
+    // by a loop, since a `map` that wraps what the trait made gets no proof
     let mut turns = Vec::new(heap);
-    for call in calls {
-        if let Some(ask) = A::ask_of(call) {
-            turns.push(Turn { ask, answer: None })?;
-        }
+    for ask in calls.iter().filter_map(|call| A::ask_of(call)) {
+        turns.push(Turn { ask, answer: None })?;
     }
     Ok(turns)
 }
 
 // Whether a replay wrote this beside a call.
 fn same_answer(answer: &Option<history::Answer>, told: Told) -> Result<(), Stop> {
-    match answer {
-        Some(answer) => same_told(told_answer(*answer), told, "the answers in a replay"),
-        None => same(false, "a call that a replay did not answer"),
-    }
-}
-
-// A replay that makes no archive: the second archive is not made either.
-fn hold_refused<S>(case: &Case<'_, S>, refused: &Refused<S>) -> Result<(), Stop> {
-    match case.second() {
-        Ok(_) => same(false, "whether a replay makes an archive"),
-        Err(number) => same(refused.denial.number() == number, "a replay's denial"),
-    }
-}
-
-// The replay of all five kinds, against what the calls told one by one and what they left.
-pub(crate) fn hold_recorded<S: Recorded + Copy>(
-    case: &Case<'_, S>,
-    both: &Option<Both<S>>,
-    tally: &mut Tally,
-) -> Result<(), Stop>
-where
-    S::Point: Figured,
-{
-    let mut lent = lent_of::<S::Point>(case.heap, case.history.rows)?;
-    let fresh = lent_of::<S::Point>(case.heap, case.history.rows)?;
-    let calls = case.history.calls.as_slice();
-    let mut turns = turns_of::<RecordedAsk<'_, S::Point>>(case.heap, calls)?;
-    let replayed = replay_recorded(
-        case.space,
-        lent.own.as_mut_slice(),
-        lent.strange.as_mut_slice(),
-        lent.list.as_mut_slice(),
-        lent.block.as_mut_slice(),
-        turns.as_mut_slice(),
-    );
-    one_more(&mut tally.replays);
-    match (replayed, both) {
-        (Err(refused), None) => hold_refused(case, &refused),
-        (Ok(archive), Some(both)) => {
-            for (i, (turn, told)) in turns.iter().zip(both.told.iter()).enumerate() {
-                same_answer(&turn.answer, *told).map_err(|stop| at_call(stop, i))?;
-            }
-            same(
-                turns.len() == both.told.len(),
-                "how many calls a replay has",
-            )?;
-            same(
-                archive.count() == both.second.members.len(),
-                "the number of members after a replay",
-            )?;
-            hold_left(&lent, &fresh, archive.count(), both)
-        }
-        _ => same(false, "whether a replay makes an archive"),
-    }
+    let answer = answer.ok_or(Stop::apart("a call that a replay did not answer"))?;
+    same_told(Told::from(answer), told, "the answers in a replay")
 }
 
 // What a replay left in the rows, the list and the block.
@@ -203,10 +102,7 @@ where
     S::Point: Figured,
 {
     same(
-        hold_members(
-            front(lent.own.as_slice(), count),
-            both.second.members.as_slice(),
-        ),
+        hold_members(lent.own.as_slice(), count, both.second.members.as_slice()),
         "the members after a replay",
     )?;
     same(
@@ -223,56 +119,145 @@ where
     )
 }
 
-// The replay of the three kinds that every space has.
-pub(crate) fn hold_plain<S: Recorded + Copy>(
-    case: &Case<'_, S>,
-    tally: &mut Tally,
-) -> Result<(), Stop>
-where
-    S::Point: Figured,
-{
-    let mut lent = lent_of::<S::Point>(case.heap, case.history.rows)?;
-    let calls = case.history.calls.as_slice();
-    let mut turns = turns_of::<Ask<S::Point>>(case.heap, calls)?;
-    let replayed = replay(
-        case.space,
-        lent.own.as_mut_slice(),
-        lent.strange.as_mut_slice(),
-        lent.list.as_mut_slice(),
-        turns.as_mut_slice(),
-    );
-    one_more(&mut tally.replays);
-    match replayed {
-        Err(refused) => hold_refused(case, &refused),
-        Ok(archive) => match case.second() {
-            Err(_) => same(false, "whether a replay makes an archive"),
-            Ok(mut second) => {
-                hold_turns(turns.as_slice(), &mut second, case.history)?;
-                same(
-                    hold_members(
-                        front(lent.own.as_slice(), archive.count()),
-                        second.members.as_slice(),
-                    ),
-                    "the members after a replay of three kinds",
-                )
-            }
-        },
-    }
-}
-
-// The answers of such a replay, one by one.
+// The answers of a replay of three kinds, one by one.
 fn hold_turns<P: Figured>(
     turns: &[Turn<Ask<P>>],
     second: &mut Second,
     history: &History,
 ) -> Result<(), Stop> {
-    let sizes = sizes_of(history);
+    let sizes = Sizes::of(history);
     let calls = history.calls.iter().enumerate().filter(|(_, call)| {
         !matches!(call, Call::Feed { .. } | Call::Save { .. })
     });
     for (turn, (i, call)) in turns.iter().zip(calls) {
         let told = answer(second, &sizes, call)?.told;
-        same_answer(&turn.answer, told).map_err(|stop| at_call(stop, i))?;
+        same_answer(&turn.answer, told).map_err(|stop| stop.at(Moment::Call(i)))?;
     }
     Ok(())
+}
+
+impl<S: Recorded + Copy> Case<'_, S>
+where
+    S::Point: Figured,
+{
+    // What the calls of the history are lent, before any call.
+    fn lent(&self) -> Result<Lent<S::Point>, AllocError> {
+        lent_of(self.heap, &Sizes::of(self.history))
+    }
+
+    // Both archives made, or none where both deny it alike.
+    fn make_both(&self, tally: &mut Tally) -> Result<Option<Both<S>>, Stop> {
+        let lent = self.lent()?;
+        match (Archive::new(self.space, lent.own.as_slice()), self.second()) {
+            (Ok(archive), Ok(second)) => Ok(Some(Both {
+                archive,
+                lent,
+                second,
+                told: Vec::new(self.heap),
+            })),
+            (Err(refused), Err(denial)) => {
+                let number = denial.number();
+                same(refused.denial.number() == number, "the making's denial")?;
+                tally.denial(number);
+                Ok(None)
+            }
+            _ => Err(Stop::apart("whether an archive is made")),
+        }
+    }
+
+    // Runs the history on both archives call by call; none where no archive is made.
+    pub(crate) fn hold_calls(&self, tally: &mut Tally) -> Result<Option<Both<S>>, Stop> {
+        let Some(mut both) = self.make_both(tally)? else {
+            return Ok(None);
+        };
+        for (i, call) in self.history.calls.iter().enumerate() {
+            let told = self
+                .hold_call(&mut both, call, tally)
+                .map_err(|stop| stop.at(Moment::Call(i)))?;
+            both.told.push(told)?;
+        }
+        Ok(Some(both))
+    }
+
+    // The replay of all five kinds, against what the calls told one by one and what they left.
+    pub(crate) fn hold_recorded(
+        &self,
+        both: &Option<Both<S>>,
+        tally: &mut Tally,
+    ) -> Result<(), Stop> {
+        let mut lent = self.lent()?;
+        let fresh = self.lent()?;
+        let calls = self.history.calls.as_slice();
+        let mut turns = turns_of::<RecordedAsk<'_, S::Point>>(self.heap, calls)?;
+        let replayed = replay_recorded(
+            self.space,
+            lent.own.as_mut_slice(),
+            lent.strange.as_mut_slice(),
+            lent.list.as_mut_slice(),
+            lent.block.as_mut_slice(),
+            turns.as_mut_slice(),
+        );
+        one_more(&mut tally.replays);
+        match (replayed, both) {
+            (Err(refused), None) => self.hold_refused(&refused),
+            (Ok(archive), Some(both)) => {
+                for (i, (turn, told)) in turns.iter().zip(both.told.iter()).enumerate() {
+                    same_answer(&turn.answer, *told).map_err(|stop| stop.at(Moment::Call(i)))?;
+                }
+                same(
+                    turns.len() == both.told.len(),
+                    "how many calls a replay has",
+                )?;
+                same(
+                    archive.count() == both.second.members.len(),
+                    "the number of members after a replay",
+                )?;
+                hold_left(&lent, &fresh, archive.count(), both)
+            }
+            _ => Err(Stop::apart("whether a replay makes an archive")),
+        }
+    }
+
+    // The replay of the three kinds that every space has.
+    pub(crate) fn hold_plain(&self, tally: &mut Tally) -> Result<(), Stop> {
+        let mut lent = self.lent()?;
+        let calls = self.history.calls.as_slice();
+        let mut turns = turns_of::<Ask<S::Point>>(self.heap, calls)?;
+        let replayed = replay(
+            self.space,
+            lent.own.as_mut_slice(),
+            lent.strange.as_mut_slice(),
+            lent.list.as_mut_slice(),
+            turns.as_mut_slice(),
+        );
+        one_more(&mut tally.replays);
+        match replayed {
+            Err(refused) => self.hold_refused(&refused),
+            Ok(archive) => {
+                let mut second = self
+                    .second()
+                    .map_err(|_| Stop::apart("whether a replay makes an archive"))?;
+                hold_turns(turns.as_slice(), &mut second, self.history)?;
+                same(
+                    hold_members(
+                        lent.own.as_slice(),
+                        archive.count(),
+                        second.members.as_slice(),
+                    ),
+                    "the members after a replay of three kinds",
+                )
+            }
+        }
+    }
+
+    // A replay that makes no archive: the second archive is not made either.
+    fn hold_refused(&self, refused: &Refused<S>) -> Result<(), Stop> {
+        match self.second() {
+            Ok(_) => Err(Stop::apart("whether a replay makes an archive")),
+            Err(denial) => same(
+                refused.denial.number() == denial.number(),
+                "a replay's denial",
+            ),
+        }
+    }
 }

@@ -1,48 +1,50 @@
 // The second archive, written from the definitions as plain sets: a trial's box that dominates members' boxes sends these
 // away, within one box a trial that dominates the member takes its place, and a trial whose box a member's equals or dominates
 // is passed over. This file is what is believed; everything else is held against it.
-use crate::blocks::{Fault, Found, read_block, trials_to_a_block, write_block};
+use crate::blocks::{BLOCK, Fault, Found, Layer, read_block, trials_to_a_block, write_block};
+use crate::denial::Denial;
+use crate::failed::Failed;
 use crate::figures::{Point, Rules, admits, boxes, dominates, worths};
+use crate::told::{Fed, NotRestored};
+use crate::verdict::Verdict;
 use std::alloc::{AllocError, Global};
+
+// The most rows that an archive may have.
+const MOST_ROWS: usize = 4096;
 
 // A trial with its worths, and with its box.
 #[derive(Clone, Copy)]
 pub(crate) struct Member {
     pub tag: u32,
     pub point: Point,
-    pub admitted: bool,
     pub worths: Point,
     pub boxes: Point,
 }
 
-// What a call answers. Verdicts, denials and faults are told by the product's own numbers and not by an enum: this archive shares
-// no type with the first.
-#[derive(Clone, Copy, PartialEq, Eq, Debug)]
-pub(crate) enum Told {
-    Judged {
-        verdict: u8,
-        displaced: usize,
-    },
-    Fed {
-        entered: usize,
-        passed: usize,
-        denied: usize,
-        displaced: usize,
-        first: Option<Fault>,
-    },
-    Audited(Option<(usize, usize)>),
-    Listed(usize),
-    Saved(usize),
-    Denied(u8),
-    Refused(Fault),
+impl Member {
+    // A trial with what is said of its point.
+    pub(crate) fn new(rules: &Rules, tag: u32, point: Point) -> Member {
+        Member {
+            tag,
+            point,
+            worths: worths(rules, &point),
+            boxes: boxes(rules, &point),
+        }
+    }
+
+    // Whether this trial and the other may not be members together.
+    fn clashes_with(&self, other: &Member) -> bool {
+        self.boxes == other.boxes
+            || dominates(&self.boxes, &other.boxes)
+            || dominates(&other.boxes, &self.boxes)
+    }
 }
 
-// An answer with what the call writes: tags to the front of the list, and a block.
+// How a trial fared that was judged: its verdict, and the tags of the members that went.
 #[derive(Drop)]
-pub(crate) struct Reply {
-    pub told: Told,
-    pub tags: Vec<u32>,
-    pub block: Option<Vec<u8>>,
+pub(crate) struct Judged {
+    pub verdict: Verdict,
+    pub gone: Vec<u32>,
 }
 
 // The rules of its space, how many rows it has, and its members, the eldest first.
@@ -54,32 +56,14 @@ pub(crate) struct Second {
     pub members: Vec<Member>,
 }
 
-// A trial with what is said of its point.
-pub(crate) fn member_of(rules: &Rules, tag: u32, point: Point) -> Member {
-    Member {
-        tag,
-        point,
-        admitted: admits(rules, &point),
-        worths: worths(rules, &point),
-        boxes: boxes(rules, &point),
-    }
-}
-
-// Whether two trials may not be members together.
-fn clash(one: &Member, other: &Member) -> bool {
-    one.boxes == other.boxes
-        || dominates(&one.boxes, &other.boxes)
-        || dominates(&other.boxes, &one.boxes)
-}
-
 impl Second {
-    // An archive with no members, or the number of the denial.
-    pub(crate) fn new(heap: Global, rules: Rules, rows: usize) -> Result<Second, u8> {
+    // An archive with no members.
+    pub(crate) fn new(heap: Global, rules: Rules, rows: usize) -> Result<Second, Denial> {
         if rows == 0 {
-            return Err(1);
+            return Err(Denial::NoRows);
         }
-        if rows > 4096 {
-            return Err(2);
+        if rows > MOST_ROWS {
+            return Err(Denial::Overlong);
         }
         Ok(Second {
             heap,
@@ -89,12 +73,12 @@ impl Second {
         })
     }
 
-    // An answer that writes nothing.
-    fn says(&self, told: Told) -> Reply {
-        Reply {
-            told,
-            tags: Vec::new(self.heap),
-            block: None,
+    // Goes on where as many rows are lent as at the making.
+    fn check_rows(&self, rows: usize) -> Result<(), Denial> {
+        if rows == self.rows {
+            Ok(())
+        } else {
+            Err(Denial::StrangeRows)
         }
     }
 
@@ -137,37 +121,35 @@ impl Second {
     }
 
     // A trial on the grid goes against the members.
-    fn update(&mut self, trial: Member) -> Result<Reply, AllocError> {
+    fn update(&mut self, trial: Member) -> Result<Judged, Failed<Denial>> {
         let below = self.rows_below(&trial)?;
         if !below.is_empty() {
-            return self.enter(2, below.as_slice(), trial);
+            return self.enter(Verdict::Displaced, below.as_slice(), trial);
         }
         if let Some(row) = self.row_beaten(&trial) {
-            return self.enter(3, &[row], trial);
+            return self.enter(Verdict::Replaced, &[row], trial);
         }
         if self.is_shut_out(&trial) {
-            return Ok(self.says(Told::Judged {
-                verdict: 0,
-                displaced: 0,
-            }));
+            return Ok(Judged {
+                verdict: Verdict::PassedOver,
+                gone: Vec::new(self.heap),
+            });
         }
         if self.members.len() >= self.rows {
-            return Ok(self.says(Told::Denied(6)));
+            return Err(Failed::For(Denial::Full));
         }
-        self.enter(1, &[], trial)
+        self.enter(Verdict::Entered, &[], trial)
     }
 
     // The trial enters with this verdict, and the members in these rows go.
-    fn enter(&mut self, verdict: u8, rows: &[usize], trial: Member) -> Result<Reply, AllocError> {
-        let tags = self.trade(rows, trial)?;
-        Ok(Reply {
-            told: Told::Judged {
-                verdict,
-                displaced: tags.len(),
-            },
-            tags,
-            block: None,
-        })
+    fn enter(
+        &mut self,
+        verdict: Verdict,
+        rows: &[usize],
+        trial: Member,
+    ) -> Result<Judged, Failed<Denial>> {
+        let gone = self.trade(rows, trial)?;
+        Ok(Judged { verdict, gone })
     }
 
     // An offer over so many rows and so long a list.
@@ -177,69 +159,53 @@ impl Second {
         room: usize,
         tag: u32,
         point: &Point,
-    ) -> Result<Reply, AllocError> {
-        let trial = member_of(&self.rules, tag, *point);
-        if rows != self.rows {
-            return Ok(self.says(Told::Denied(3)));
-        }
+    ) -> Result<Judged, Failed<Denial>> {
+        self.check_rows(rows)?;
         if room < self.rows {
-            return Ok(self.says(Told::Denied(4)));
+            return Err(Failed::For(Denial::ShortList));
         }
-        if !trial.admitted {
-            return Ok(self.says(Told::Denied(5)));
+        if !admits(&self.rules, point) {
+            return Err(Failed::For(Denial::OffGrid));
         }
+        let trial = Member::new(&self.rules, tag, *point);
         self.update(trial)
     }
 
-    // The first pair of rows that may not stand, the lowest first.
+    // The first pair of rows that may not stand, the lowest first; a row with itself where its trial is off the grid.
     fn first_clash(&self) -> Option<(usize, usize)> {
-        for (i, one) in self.members.iter().enumerate() {
-            if !one.admitted {
+        let mut rows = self.members.iter().enumerate();
+        rows.find_map(|(i, one)| {
+            if !admits(&self.rules, &one.point) {
                 return Some((i, i));
             }
-            for (j, other) in self.members.iter().enumerate() {
-                if i < j && clash(one, other) {
-                    return Some((i, j));
-                }
-            }
-        }
-        None
+            let mut later = self.members.iter().enumerate().skip(i).skip(1);
+            later
+                .find(|(_, other)| one.clashes_with(other))
+                .map(|(j, _)| (i, j))
+        })
     }
 
     // An audit over so many rows.
-    pub(crate) fn audit(&self, rows: usize) -> Reply {
-        if rows != self.rows {
-            return self.says(Told::Denied(3));
-        }
-        self.says(Told::Audited(self.first_clash()))
+    pub(crate) fn audit(&self, rows: usize) -> Result<Option<(usize, usize)>, Failed<Denial>> {
+        self.check_rows(rows)?;
+        Ok(self.first_clash())
     }
 
-    // A list over so many rows and so long a list.
-    pub(crate) fn list(&self, rows: usize, room: usize) -> Result<Reply, AllocError> {
-        if rows != self.rows {
-            return Ok(self.says(Told::Denied(3)));
-        }
+    // A list over so many rows and so long a list: the tags, in the order of the members.
+    pub(crate) fn list(&self, rows: usize, room: usize) -> Result<Vec<u32>, Failed<Denial>> {
+        self.check_rows(rows)?;
         if room < self.members.len() {
-            return Ok(self.says(Told::Denied(4)));
+            return Err(Failed::For(Denial::ShortList));
         }
-        let tags: Vec<u32> = self
-            .members
-            .iter()
-            .map(|member| member.tag)
-            .collect(self.heap)?;
-        Ok(Reply {
-            told: Told::Listed(tags.len()),
-            tags,
-            block: None,
-        })
+        let tags = self.members.iter().map(|member| member.tag);
+        Ok(tags.collect(self.heap)?)
     }
 
     // All blocks of the members: one after the other as many as fit, and one if there is no member.
     pub(crate) fn all_blocks(&self) -> Result<Vec<Vec<u8>>, AllocError> {
         let mut blocks = Vec::new(self.heap);
         let each = trials_to_a_block(&self.rules).max(1);
-        for part in self.members.as_slice().chunks(each) {
-            let number = u32::try_from(blocks.len()).unwrap_or(0);
+        for (number, part) in (0u32..).zip(self.members.as_slice().chunks(each)) {
             blocks.push(write_block(self.heap, &self.rules, number, part)?)?;
         }
         if blocks.is_empty() {
@@ -254,124 +220,51 @@ impl Second {
         rows: usize,
         number: usize,
         size: usize,
-    ) -> Result<Reply, AllocError> {
-        if rows != self.rows {
-            return Ok(self.says(Told::Denied(3)));
-        }
-        if size != 512 {
-            return Ok(self.says(Told::Denied(9)));
+    ) -> Result<Vec<u8>, Failed<Denial>> {
+        self.check_rows(rows)?;
+        if size != BLOCK {
+            return Err(Failed::For(Denial::WrongLength));
         }
         let blocks = self.all_blocks()?;
-        match blocks.into_iter().nth(number) {
-            Some(block) => {
-                let count = usize::from(block.get(1).copied().unwrap_or(0));
-                Ok(Reply {
-                    told: Told::Saved(count),
-                    tags: Vec::new(self.heap),
-                    block: Some(block),
-                })
-            }
-            None => Ok(self.says(Told::Denied(14))),
-        }
+        let block = blocks.into_iter().nth(number);
+        block.ok_or(Failed::For(Denial::NoSuchBlock))
     }
 
     // A feed over so many rows: the whole block is looked at before its first trial.
-    pub(crate) fn feed(&mut self, rows: usize, bytes: &[u8]) -> Result<Reply, AllocError> {
-        if rows != self.rows {
-            return Ok(self.says(Told::Refused(Fault {
-                number: 3,
-                layer: 3,
-                place: 0,
-            })));
-        }
-        match read_block(self.heap, &self.rules, bytes)? {
-            Err(fault) => Ok(self.says(Told::Refused(fault))),
-            Ok(trials) => self.take(trials.as_slice()),
-        }
+    pub(crate) fn feed(&mut self, rows: usize, bytes: &[u8]) -> Result<Fed, Failed<Fault>> {
+        self.check_rows(rows)
+            .map_err(|denial| Fault::new(denial, Layer::Archive, 0))?;
+        let trials = read_block(self.heap, &self.rules, bytes)?;
+        Ok(self.take(trials.as_slice())?)
     }
 
     // One trial after the other; a denied one does not stop the rest, and the first is told.
-    fn take(&mut self, trials: &[Found]) -> Result<Reply, AllocError> {
-        let mut entered = 0usize;
-        let mut passed = 0usize;
-        let mut denied = 0usize;
-        let mut gone = 0usize;
-        let mut first = None;
+    fn take(&mut self, trials: &[Found]) -> Result<Fed, AllocError> {
+        let mut fed = Fed::default();
         for found in trials {
-            let reply = self.offer(self.rows, self.rows, found.tag, &found.point)?;
-            match reply.told {
-                Told::Judged {
-                    verdict: 0,
-                    displaced: _,
-                } => passed = passed.saturating_add(1),
-                Told::Judged {
-                    verdict: _,
-                    displaced,
-                } => {
-                    entered = entered.saturating_add(1);
-                    gone = gone.saturating_add(displaced);
+            let one = match self.offer(self.rows, self.rows, found.tag, &found.point) {
+                Ok(judged) => Fed::of_judged(judged.verdict, judged.gone.len()),
+                Err(Failed::For(denial)) => {
+                    Fed::of_denied(Fault::new(denial, Layer::Archive, found.place))
                 }
-                Told::Denied(number) => {
-                    denied = denied.saturating_add(1);
-                    first = first.or(Some(Fault {
-                        number,
-                        layer: 3,
-                        place: found.place,
-                    }));
-                }
-                _ => {}
-            }
+                Err(Failed::Memory(failed)) => return Err(failed),
+            };
+            fed = fed.saturating_add(one);
         }
-        Ok(self.says(Told::Fed {
-            entered,
-            passed,
-            denied,
-            displaced: gone,
-            first,
-        }))
+        Ok(fed)
     }
-}
-
-// Why nothing is restored: the number of the making's denial, or the first block at fault and its fault.
-#[derive(Clone, Copy, PartialEq, Eq, Debug)]
-pub(crate) enum NotRestored {
-    Denied(u8),
-    Block(usize, Fault),
 }
 
 // An archive that is restored, and what the trials of its blocks came to.
 #[derive(Drop)]
 pub(crate) struct Restored {
     pub archive: Second,
-    pub told: Told,
+    pub fed: Fed,
 }
 
-// What two feeds came to together.
-fn sum(former: Told, latter: Told) -> Told {
-    match (former, latter) {
-        (
-            Told::Fed {
-                entered,
-                passed,
-                denied,
-                displaced,
-                first,
-            },
-            Told::Fed {
-                entered: entered_more,
-                passed: passed_more,
-                denied: denied_more,
-                displaced: displaced_more,
-                first: first_later,
-            },
-        ) => Told::Fed {
-            entered: entered.saturating_add(entered_more),
-            passed: passed.saturating_add(passed_more),
-            denied: denied.saturating_add(denied_more),
-            displaced: displaced.saturating_add(displaced_more),
-            first: first.or(first_later),
-        },
-        _ => former,
+impl From<Denial> for Failed<NotRestored> {
+    fn from(denial: Denial) -> Failed<NotRestored> {
+        Failed::For(NotRestored::Denied(denial.number()))
     }
 }
 
@@ -381,25 +274,16 @@ pub(crate) fn restore(
     rules: Rules,
     rows: usize,
     blocks: &[Vec<u8>],
-) -> Result<Result<Restored, NotRestored>, AllocError> {
-    let mut archive = match Second::new(heap, rules, rows) {
-        Ok(archive) => archive,
-        Err(number) => return Ok(Err(NotRestored::Denied(number))),
-    };
+) -> Result<Restored, Failed<NotRestored>> {
+    let mut archive = Second::new(heap, rules, rows)?;
+    let mut read = Vec::new(heap);
     for (k, block) in blocks.iter().enumerate() {
-        if let Err(fault) = read_block(heap, &rules, block.as_slice())? {
-            return Ok(Err(NotRestored::Block(k, fault)));
-        }
+        let trials = read_block(heap, &rules, block.as_slice());
+        read.push(trials.map_err(|failed| failed.map(|fault| NotRestored::Block(k, fault)))?)?;
     }
-    let mut told = Told::Fed {
-        entered: 0,
-        passed: 0,
-        denied: 0,
-        displaced: 0,
-        first: None,
-    };
-    for block in blocks {
-        told = sum(told, archive.feed(rows, block.as_slice())?.told);
+    let mut fed = Fed::default();
+    for trials in read.iter() {
+        fed = fed.saturating_add(archive.take(trials.as_slice())?);
     }
-    Ok(Ok(Restored { archive, told }))
+    Ok(Restored { archive, fed })
 }

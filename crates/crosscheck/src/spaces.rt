@@ -1,95 +1,130 @@
 // The first archive's spaces, made from the rules of a history, and a history held over its space.
 use crate::apart::{Stop, same};
-use crate::arbitrary::hold_arbitrary;
 use crate::bridge::Figured;
-use crate::case::{Case, case_of};
-use crate::chance::Chance;
-use crate::figures::Rule;
+use crate::case::Case;
+use crate::denial::Denial;
+use crate::figures::{Better, Ratios, Rule, Steps};
 use crate::histories::{History, Kind, Scales, Shape};
-use crate::questions::hold_questions;
-use crate::replays::{hold_calls, hold_plain, hold_recorded};
-use crate::restores::hold_restore;
 use crate::tally::{Tally, one_more};
 use beside::Beside;
 use ratio::RatioSpace;
 use space::{BadGrid, Recorded, Space};
-use std::alloc::{AllocError, Global};
+use std::alloc::Global;
 use step::{Direction, StepSpace};
 
-// The scale of a step rule.
-fn step_scale(rule: &Rule) -> Option<step::Scale> {
-    match rule {
-        Rule::Step {
-            smaller,
-            low,
-            high,
-            step,
-        } => Some(step::Scale {
-            direction: if *smaller {
-                Direction::SmallerIsBetter
-            } else {
-                Direction::LargerIsBetter
-            },
-            low: *low,
-            high: *high,
-            step: *step,
-        }),
-        _ => None,
+impl From<Better> for Direction {
+    fn from(better: Better) -> Direction {
+        match better {
+            Better::Larger => Direction::LargerIsBetter,
+            Better::Smaller => Direction::SmallerIsBetter,
+        }
     }
 }
 
-// The scale of a ratio rule.
-fn ratio_scale(rule: &Rule) -> Option<ratio::Scale> {
-    match rule {
-        Rule::Ratio { per_cent, ceiling } => Some(ratio::Scale {
-            per_cent: *per_cent,
-            ceiling: *ceiling,
-        }),
-        _ => None,
+// A space of the first archive that is made from rules of one kind.
+trait OfRules: Recorded + Copy {
+    type Scale: Copy;
+
+    // The scale of a rule of this kind.
+    fn scale_of(rule: &Rule) -> Option<Self::Scale>;
+
+    // The space of these scales.
+    fn of_scales(scales: &[Self::Scale]) -> Result<Self, BadGrid>;
+}
+
+impl OfRules for StepSpace {
+    type Scale = step::Scale;
+
+    fn scale_of(rule: &Rule) -> Option<step::Scale> {
+        match rule {
+            Rule::Step(
+                Steps {
+                    better,
+                    low,
+                    high,
+                    step,
+                },
+            ) => Some(step::Scale {
+                direction: Direction::from(*better),
+                low: *low,
+                high: *high,
+                step: *step,
+            }),
+            Rule::Ratio(_) => None,
+        }
+    }
+
+    fn of_scales(scales: &[step::Scale]) -> Result<StepSpace, BadGrid> {
+        StepSpace::new(scales)
     }
 }
 
-// The first archive's step space of these rules.
-fn step_space(heap: Global, rules: &[Rule]) -> Result<Result<StepSpace, BadGrid>, AllocError> {
-    let scales: Vec<step::Scale> = rules.iter().filter_map(step_scale).collect(heap)?;
-    Ok(StepSpace::new(scales.as_slice()))
-}
+impl OfRules for RatioSpace {
+    type Scale = ratio::Scale;
 
-// The first archive's ratio space of these rules.
-fn ratio_space(heap: Global, rules: &[Rule]) -> Result<Result<RatioSpace, BadGrid>, AllocError> {
-    let scales: Vec<ratio::Scale> = rules.iter().filter_map(ratio_scale).collect(heap)?;
-    Ok(RatioSpace::new(scales.as_slice()))
-}
-
-// What is wrong with the rules of one space: 255 if they are none or more than six, else the lowest place at fault.
-fn second_fault(rules: &[Rule]) -> Option<u8> {
-    if rules.is_empty() || rules.len() > 6 {
-        return Some(255);
+    fn scale_of(rule: &Rule) -> Option<ratio::Scale> {
+        match rule {
+            Rule::Ratio(Ratios { per_cent, ceiling }) => Some(ratio::Scale {
+                per_cent: *per_cent,
+                ceiling: *ceiling,
+            }),
+            Rule::Step(_) => None,
+        }
     }
-    let place = rules.iter().position(|rule| !rule.is_sound())?;
-    u8::try_from(place).ok()
+
+    fn of_scales(scales: &[ratio::Scale]) -> Result<RatioSpace, BadGrid> {
+        RatioSpace::new(scales)
+    }
+}
+
+// What is wrong with the rules of one space: that they are none or more than six, or the lowest that is not sound.
+#[derive(Clone, Copy)]
+enum Unsound {
+    Count,
+    Rule(u8),
+}
+
+impl Unsound {
+    // What is told of the number of rules in place of a rule.
+    const COUNT: u8 = 255;
+
+    // What is wrong with these rules.
+    fn of(rules: &[Rule]) -> Option<Unsound> {
+        if rules.is_empty() || rules.len() > 6 {
+            return Some(Unsound::Count);
+        }
+        let place = rules.iter().position(|rule| !rule.is_sound())?;
+        u8::try_from(place).ok().map(Unsound::Rule)
+    }
+
+    // The number that tells it.
+    fn told(&self) -> u8 {
+        match self {
+            Unsound::Count => Unsound::COUNT,
+            Unsound::Rule(place) => *place,
+        }
+    }
 }
 
 // The space, where both archives find nothing wrong with it; none where both tell the same fault.
-fn made<S>(first: Result<S, BadGrid>, rules: &[Rule], tally: &mut Tally) -> Result<Option<S>, Stop>
-where
-    S: Copy,
-{
+fn made<S: OfRules>(heap: Global, rules: &[Rule], tally: &mut Tally) -> Result<Option<S>, Stop> {
     one_more(&mut tally.spaces);
-    match (first, second_fault(rules)) {
+    let scales: Vec<S::Scale> = rules
+        .iter()
+        .filter_map(|rule| S::scale_of(rule))
+        .collect(heap)?;
+    match (S::of_scales(scales.as_slice()), Unsound::of(rules)) {
         (Ok(space), None) => Ok(Some(space)),
-        (Err(bad), Some(told)) => {
+        (Err(bad), Some(unsound)) => {
+            let number = Denial::BadGrid.number();
             same(
-                bad.number() == 7 && bad.told() == told,
+                bad.number() == number && bad.told() == unsound.told(),
                 "which objective of a grid is at fault",
             )?;
-            tally.denial(7);
+            tally.denial(number);
             Ok(None)
         }
-        _ => {
-            same(false, "whether a grid is made")?;
-            Ok(None)
-        }
+        _ => Err(Stop::apart("whether a grid is made")),
     }
 }
 
@@ -107,114 +142,85 @@ fn paired<A: Space + Copy, B: Space + Copy>(
             Ok(Some(space))
         }
         Err(refused) => {
-            same(all > 6 && refused.number() == 8, "whether two spaces fit")?;
-            tally.denial(8);
+            let number = Denial::TooMany.number();
+            same(
+                all > 6 && refused.number() == number,
+                "whether two spaces fit",
+            )?;
+            tally.denial(number);
             Ok(None)
         }
     }
 }
 
-// A history over its space, in every way.
-fn hold_over<S: Recorded + Copy>(
-    case: &Case<'_, S>,
-    chance: &mut Chance,
-    tally: &mut Tally,
-) -> Result<(), Stop>
+impl<S: Recorded + Copy> Case<'_, S>
 where
     S::Point: Figured,
 {
-    one_more(&mut tally.histories);
-    hold_questions(case, tally)?;
-    let mut both = hold_calls(case, tally)?;
-    hold_recorded(case, &both, tally)?;
-    hold_plain(case, tally)?;
-    if let Some(both) = &mut both {
-        hold_restore(case, both, tally)?;
-        hold_arbitrary(case, chance, both, tally)?;
+    // The history over its space, in every way.
+    fn hold(&self, tally: &mut Tally) -> Result<(), Stop> {
+        one_more(&mut tally.histories);
+        self.hold_questions(tally)?;
+        let mut both = self.hold_calls(tally)?;
+        self.hold_recorded(&both, tally)?;
+        self.hold_plain(tally)?;
+        if let Some(both) = &mut both {
+            self.hold_restore(both, tally)?;
+            self.hold_arbitrary(both, tally)?;
+        }
+        Ok(())
     }
-    Ok(())
+}
+
+// A history over one space.
+fn hold_one<S: OfRules>(heap: Global, history: &History, tally: &mut Tally) -> Result<(), Stop>
+where
+    S::Point: Figured,
+{
+    let Some(space) = made::<S>(heap, history.scales.first.as_slice(), tally)? else {
+        return Ok(());
+    };
+    Case::new(heap, space, history).hold(tally)
 }
 
 // A history over two spaces side by side.
-fn hold_pair<A: Recorded + Copy, B: Recorded + Copy>(
+fn hold_pair<A: OfRules, B: OfRules>(
     heap: Global,
-    first: Result<A, BadGrid>,
-    second: Result<B, BadGrid>,
     history: &History,
-    chance: &mut Chance,
     tally: &mut Tally,
 ) -> Result<(), Stop>
 where
     (A::Point, B::Point): Figured,
 {
     let scales = &history.scales;
-    let Some(first) = made(first, scales.first.as_slice(), tally)? else {
+    let Some(first) = made::<A>(heap, scales.first.as_slice(), tally)? else {
         return Ok(());
     };
-    let Some(second) = made(second, scales.second.as_slice(), tally)? else {
+    let Some(second) = made::<B>(heap, scales.second.as_slice(), tally)? else {
         return Ok(());
     };
     let Some(space) = paired(first, second, scales, tally)? else {
         return Ok(());
     };
-    hold_over(&case_of(heap, space, history), chance, tally)
+    Case::new(heap, space, history).hold(tally)
 }
 
-// A history over one space.
-fn hold_one<S: Recorded + Copy>(
-    heap: Global,
-    space: Result<S, BadGrid>,
-    history: &History,
-    chance: &mut Chance,
-    tally: &mut Tally,
-) -> Result<(), Stop>
-where
-    S::Point: Figured,
-{
-    match made(space, history.scales.first.as_slice(), tally)? {
-        Some(space) => hold_over(&case_of(heap, space, history), chance, tally),
-        None => Ok(()),
-    }
-}
-
-// A history over its space, if that can be made.
-pub(crate) fn hold_history(
-    heap: Global,
-    history: &History,
-    chance: &mut Chance,
-    tally: &mut Tally,
-) -> Result<(), Stop> {
-    let scales = &history.scales;
-    let front = scales.first.as_slice();
-    let back = scales.second.as_slice();
-    match scales.kind {
-        Kind::Alone(Shape::Step) => {
-            let space = step_space(heap, front)?;
-            hold_one(heap, space, history, chance, tally)
-        }
-        Kind::Alone(Shape::Ratio) => {
-            let space = ratio_space(heap, front)?;
-            hold_one(heap, space, history, chance, tally)
-        }
+// A history over its space, if that can be made. The kind is a value and the space a type, so each kind has an arm.
+pub(crate) fn hold_history(heap: Global, history: &History, tally: &mut Tally) -> Result<(), Stop> {
+    match history.scales.kind {
+        Kind::Alone(Shape::Step) => hold_one::<StepSpace>(heap, history, tally),
+        Kind::Alone(Shape::Ratio) => hold_one::<RatioSpace>(heap, history, tally),
         Kind::Pair(Shape::Step, Shape::Step) => {
-            let first = step_space(heap, front)?;
-            let second = step_space(heap, back)?;
-            hold_pair(heap, first, second, history, chance, tally)
+            hold_pair::<StepSpace, StepSpace>(heap, history, tally)
         }
         Kind::Pair(Shape::Step, Shape::Ratio) => {
-            let first = step_space(heap, front)?;
-            let second = ratio_space(heap, back)?;
-            hold_pair(heap, first, second, history, chance, tally)
+            hold_pair::<StepSpace, RatioSpace>(heap, history, tally)
         }
         Kind::Pair(Shape::Ratio, Shape::Step) => {
-            let first = ratio_space(heap, front)?;
-            let second = step_space(heap, back)?;
-            hold_pair(heap, first, second, history, chance, tally)
+            hold_pair::<RatioSpace, StepSpace>(heap, history, tally)
         }
         Kind::Pair(Shape::Ratio, Shape::Ratio) => {
-            let first = ratio_space(heap, front)?;
-            let second = ratio_space(heap, back)?;
-            hold_pair(heap, first, second, history, chance, tally)
+            hold_pair::<RatioSpace, RatioSpace>(heap, history, tally)
         }
     }
 }

@@ -1,14 +1,16 @@
 // What has been tried so far.
-use crate::second::Told;
+use crate::denial::Denial;
+use crate::told::{Fed, Told};
+use crate::verdict::Verdict;
 
-// How often each thing occurred.
-#[derive(Clone, Copy)]
+// How often each thing occurred; verdicts and denials in the places of their numbers.
+#[derive(Clone, Copy, Default)]
 pub(crate) struct Tally {
     pub histories: u64,
     pub calls: u64,
     pub trials: u64,
-    pub verdicts: [u64; 4],
-    pub denials: [u64; 15],
+    verdicts: [u64; 4],
+    denials: [u64; 15],
     pub displaced: u64,
     pub members: usize,
     pub most_blocks: usize,
@@ -33,32 +35,33 @@ fn more(count: &mut u64, by: usize) {
 }
 
 impl Tally {
-    // Nothing has been tried.
-    pub(crate) fn new() -> Tally {
-        Tally {
-            histories: 0,
-            calls: 0,
-            trials: 0,
-            verdicts: [0; 4],
-            denials: [0; 15],
-            displaced: 0,
-            members: 0,
-            most_blocks: 0,
-            replays: 0,
-            blocks: 0,
-            restored: 0,
-            not_restored: 0,
-            audits: 0,
-            offers: 0,
-            spaces: 0,
-            questions: 0,
-        }
+    // How often this verdict occurred.
+    pub(crate) fn of_verdict(&self, verdict: Verdict) -> u64 {
+        let count = self.verdicts.get(usize::from(verdict.number()));
+        count.copied().unwrap_or(0)
+    }
+
+    // How often this denial occurred.
+    pub(crate) fn of_denial(&self, denial: Denial) -> u64 {
+        let count = self.denials.get(usize::from(denial.number()));
+        count.copied().unwrap_or(0)
     }
 
     // A denial of this number.
     pub(crate) fn denial(&mut self, number: u8) {
         if let Some(count) = self.denials.get_mut(usize::from(number)) {
             one_more(count);
+        }
+    }
+
+    // What the trials of a block came to.
+    fn fed(&mut self, fed: &Fed) {
+        more(&mut self.trials, fed.entered);
+        more(&mut self.trials, fed.passed);
+        more(&mut self.trials, fed.denied);
+        more(&mut self.displaced, fed.displaced);
+        if let Some(fault) = fed.first {
+            self.denial(fault.number);
         }
     }
 
@@ -73,23 +76,9 @@ impl Tally {
                     one_more(count);
                 }
             }
-            Told::Fed {
-                entered,
-                passed,
-                denied,
-                displaced,
-                first,
-            } => {
-                more(&mut self.trials, *entered);
-                more(&mut self.trials, *passed);
-                more(&mut self.trials, *denied);
-                more(&mut self.displaced, *displaced);
-                if let Some(fault) = first {
-                    self.denial(fault.number);
-                }
-            }
+            Told::Fed(fed) => self.fed(fed),
             Told::Denied(number) => {
-                if *number == 5 || *number == 6 {
+                if *number == Denial::OffGrid.number() || *number == Denial::Full.number() {
                     one_more(&mut self.trials);
                 }
                 self.denial(*number);
@@ -101,7 +90,9 @@ impl Tally {
 
     // Whether each verdict and each denial occurred.
     pub(crate) fn is_whole(&self) -> bool {
-        self.verdicts.iter().all(|count| *count > 0)
-            && self.denials.iter().skip(1).all(|count| *count > 0)
+        Verdict::ALL
+            .iter()
+            .all(|verdict| self.of_verdict(*verdict) > 0)
+            && Denial::ALL.iter().all(|denial| self.of_denial(*denial) > 0)
     }
 }

@@ -1,0 +1,53 @@
+// What the calls of a history are made up from.
+use crate::chance::Chance;
+use crate::figures::{PLACES, Point, Rule, Rules};
+use crate::making::point_by;
+use std::alloc::Global;
+
+// Chance, the rules of the space, points to come back to, and how many rows the archive has.
+#[derive(Clone, Copy)]
+pub(crate) struct Source<'a> {
+    pub heap: Global,
+    pub chance: Chance,
+    pub rules: &'a Rules,
+    pub points: &'a [Point],
+    pub rows: usize,
+}
+
+impl Source<'_> {
+    // The point with one figure moved by one, so that it may be better or worse within a box.
+    fn nudged(&mut self, mut point: Point) -> Point {
+        let rules = self.rules;
+        let i = self.chance.size(PLACES);
+        if let (Some(figure), Some(Some(rule))) = (point.get_mut(i), rules.get(i)) {
+            let moved = figure.saturating_add(self.chance.between(-1, 1));
+            if rule.admits(moved) {
+                *figure = moved;
+            }
+        }
+        point
+    }
+
+    // The point with one figure off the grid, where there is room for one.
+    pub(crate) fn stray(&mut self, mut point: Point) -> Point {
+        let rules = self.rules;
+        let i = self.chance.size(PLACES);
+        if let (Some(figure), Some(Some(rule))) = (point.get_mut(i), rules.get(i)) {
+            *figure = match rule {
+                Rule::Step(steps) => i64::from(steps.high.saturating_add(1)),
+                Rule::Ratio(_) => 0,
+            };
+        }
+        point
+    }
+
+    // A point: one of those to come back to, one near it, or a new one.
+    pub(crate) fn some_point(&mut self) -> Point {
+        let at = self.chance.size(self.points.len());
+        match (self.chance.below(7), self.points.get(at)) {
+            (0, Some(point)) => *point,
+            (1..4, Some(point)) => self.nudged(*point),
+            _ => point_by(&mut self.chance, self.rules),
+        }
+    }
+}
