@@ -2,18 +2,24 @@
 use crate::denial::Denial;
 use crate::failed::Failed;
 use crate::figures::{PLACES, Point, Rule, Rules, objectives};
+use crate::numbered::Numbered;
 use crate::second::Member;
 use std::alloc::{AllocError, Global};
 
-// How long a block is, where its records begin, and where the sums stand behind them.
+// How long a block is.
 pub(crate) const BLOCK: usize = 512;
 
-pub(crate) const RECORDS: usize = 8;
+// Where its records begin.
+pub(crate) const RECORDS_AT: usize = 8;
 
-pub(crate) const SUMS: usize = 508;
+// Where its sums begin, behind the records.
+pub(crate) const SUMS_AT: usize = 508;
+
+// How many bytes of it are for records.
+pub(crate) const ROOM: usize = SUMS_AT - RECORDS_AT;
 
 // How many bytes a record has in front of a trial's figures: its kind, its length and the tag.
-const BEFORE_FIGURES: usize = 6;
+pub(crate) const BEFORE_FIGURES: usize = 6;
 
 // What finds a fault: the check of a block as a whole, the check of its records, or the archive.
 #[derive(Clone, Copy)]
@@ -99,7 +105,7 @@ fn word_at(bytes: &[u8], place: usize) -> u32 {
 fn check_bytes(bytes: &[u8]) -> [u8; 4] {
     let mut a = 0u32;
     let mut b = 0u32;
-    for byte in bytes.iter().take(SUMS) {
+    for byte in bytes.iter().take(SUMS_AT) {
         a = a.wrapping_add(u32::from(*byte));
         b = b.wrapping_add(a);
     }
@@ -114,8 +120,8 @@ fn check_head(rules: &Rules, bytes: &[u8]) -> Result<(), Fault> {
     if bytes.len() != BLOCK {
         return fault(Denial::WrongLength, 0);
     }
-    if word_at(bytes, SUMS) != u32::from_be_bytes(check_bytes(bytes)) {
-        return fault(Denial::Torn, SUMS);
+    if word_at(bytes, SUMS_AT) != u32::from_be_bytes(check_bytes(bytes)) {
+        return fault(Denial::Torn, SUMS_AT);
     }
     if byte_at(bytes, 0) != 1 {
         return fault(Denial::StrangeBlock, 0);
@@ -145,7 +151,7 @@ fn record_at(rules: &Rules, bytes: &[u8], place: usize) -> Result<Record, Fault>
     let kind = Kind::of_byte(byte_at(bytes, place)).ok_or(bad)?;
     let length = usize::from(byte_at(bytes, place.saturating_add(1)));
     let after = place.saturating_add(2).saturating_add(length);
-    if after > SUMS || (kind == Kind::Trial && length != trial_length(rules)) {
+    if after > SUMS_AT || (kind == Kind::Trial && length != trial_length(rules)) {
         return Err(bad);
     }
     Ok(Record { kind, after })
@@ -175,7 +181,7 @@ fn point_at(rules: &Rules, bytes: &[u8], place: usize) -> Point {
 
 // Goes on where nothing follows the last record, which ends here.
 fn check_tail(bytes: &[u8], end: usize) -> Result<(), Fault> {
-    let mut tail = bytes.iter().enumerate().take(SUMS).skip(end);
+    let mut tail = bytes.iter().enumerate().take(SUMS_AT).skip(end);
     match tail.find(|(_, byte)| **byte != 0) {
         Some((place, _)) => Err(Fault::new(Denial::BadRecord, Layer::Record, place)),
         None => Ok(()),
@@ -190,7 +196,7 @@ pub(crate) fn read_block(
 ) -> Result<Vec<Found>, Failed<Fault>> {
     check_head(rules, bytes)?;
     let mut trials = Vec::new(heap);
-    let mut place = RECORDS;
+    let mut place = RECORDS_AT;
     for _ in 0..byte_at(bytes, 1) {
         let record = record_at(rules, bytes, place)?;
         if record.kind == Kind::Trial {
@@ -234,7 +240,7 @@ pub(crate) fn figures_bytes(
 // How many trials a block has room for.
 pub(crate) fn trials_to_a_block(rules: &Rules) -> usize {
     let each = figures_length(rules).saturating_add(BEFORE_FIGURES);
-    SUMS.saturating_sub(RECORDS).checked_div(each).unwrap_or(0)
+    ROOM.checked_div(each).unwrap_or(0)
 }
 
 // The block of these members with this number.
@@ -255,7 +261,7 @@ pub(crate) fn write_block(
         put(&mut block, &member.tag.to_be_bytes())?;
         figures_bytes(rules, &member.point, &mut block)?;
     }
-    block.resize(SUMS, 0)?;
+    block.resize(SUMS_AT, 0)?;
     let sums = check_bytes(block.as_slice());
     put(&mut block, &sums)?;
     Ok(block)

@@ -1,11 +1,17 @@
 // Blocks made up by chance: sound ones, and ones with one or two things wrong.
-use crate::blocks::{BLOCK, Kind, RECORDS, SUMS, figures_bytes, figures_length, put, trial_length};
+use crate::blocks::{
+    BEFORE_FIGURES, BLOCK, Kind, RECORDS_AT, ROOM, SUMS_AT, figures_bytes, figures_length, put,
+    trial_length,
+};
 use crate::chance::Chance;
 use crate::figures::{Point, Rules, objectives};
 use crate::making::tag_by;
 use crate::source::Source;
 use log_block::seal;
 use std::alloc::{AllocError, Global};
+
+// The last byte for records.
+const LAST: usize = SUMS_AT - 1;
 
 // Writes a byte over another, if the block reaches so far.
 fn set(block: &mut Vec<u8>, place: usize, byte: u8) {
@@ -35,13 +41,13 @@ impl Filling {
         }
         Ok(Filling {
             bytes,
-            last: RECORDS,
+            last: RECORDS_AT,
         })
     }
 
     // How many bytes there still are for records.
     fn room(&self) -> usize {
-        SUMS.saturating_sub(self.bytes.len())
+        SUMS_AT.saturating_sub(self.bytes.len())
     }
 
     // How many records there are.
@@ -62,7 +68,7 @@ impl Filling {
 
     // A trial, if there is room.
     fn trial(&mut self, rules: &Rules, tag: u32, point: &Point) -> Result<(), AllocError> {
-        if self.room() >= figures_length(rules).saturating_add(6) {
+        if self.room() >= figures_length(rules).saturating_add(BEFORE_FIGURES) {
             self.begin(Kind::Trial, trial_length(rules))?;
             put(&mut self.bytes, &tag.to_be_bytes())?;
             figures_bytes(rules, point, &mut self.bytes)?;
@@ -95,11 +101,11 @@ impl Filling {
             6 => (1, records.wrapping_add(1)),
             7 => (1, records.wrapping_sub(1)),
             8 => {
-                let after = chance.size(SUMS.saturating_sub(end));
+                let after = chance.size(SUMS_AT.saturating_sub(end));
                 (end.saturating_add(after), byte)
             }
-            9 => (507, byte),
-            _ => (chance.size(500).saturating_add(8), byte),
+            9 => (LAST, byte),
+            _ => (chance.size(ROOM).saturating_add(RECORDS_AT), byte),
         };
         set(&mut self.bytes, place, byte)
     }
@@ -108,7 +114,7 @@ impl Filling {
     fn tear(&mut self, chance: &mut Chance) -> Result<(), AllocError> {
         match chance.below(5) {
             0 => {
-                let length = chance.size(513);
+                let length = chance.size(BLOCK + 1);
                 self.bytes.truncate(length);
             }
             1 => self.bytes.push(0)?,
@@ -116,7 +122,7 @@ impl Filling {
                 self.bytes.fill(0);
             }
             3 => {
-                let place = chance.size(4).saturating_add(SUMS);
+                let place = chance.size(4).saturating_add(SUMS_AT);
                 let byte = chance.byte();
                 set(&mut self.bytes, place, byte);
             }

@@ -1,4 +1,5 @@
 // What the second archive denies for, with the product's number for each denial and what the account calls it.
+use crate::numbered::Numbered;
 use std::fmt;
 
 #[derive(Clone, Copy)]
@@ -19,8 +20,10 @@ pub(crate) enum Denial {
     NoSuchBlock = 14,
 }
 
-impl Denial {
-    pub(crate) const ALL: [Denial; 14] = [
+impl Numbered for Denial {
+    const NOUN: &'static str = "denial";
+
+    const ALL: &'static [Denial] = &[
         Denial::NoRows,
         Denial::Overlong,
         Denial::StrangeRows,
@@ -37,8 +40,7 @@ impl Denial {
         Denial::NoSuchBlock,
     ];
 
-    // The number of this denial.
-    pub(crate) fn number(self) -> u8 {
+    fn number(self) -> u8 {
         self as u8
     }
 }

@@ -22,6 +22,7 @@ mod lines;
 mod making;
 mod named;
 mod narrow;
+mod numbered;
 mod questions;
 mod replays;
 mod reply;
@@ -40,7 +41,6 @@ use calling::history_by;
 use histories::History;
 use lines::{print_apart, print_history};
 use named::{log_history, named_histories};
-use spaces::hold_history;
 use std::env;
 use std::io::Read;
 use tally::Tally;
@@ -70,7 +70,9 @@ fn run_one(rt: &HostRuntime, seed: u64, number: u64) -> anyhow::Result<()> {
     let history = history_by(rt.alloc(), seed, number)?;
     println!(rt; "history {seed} {number}")?;
     print_history(rt, &history)?;
-    hold_history(rt.alloc(), &history, &mut Tally::default()).or_else(|stop| tell(rt, stop))?;
+    history
+        .hold(rt.alloc(), &mut Tally::default())
+        .or_else(|stop| tell(rt, stop))?;
     println!(rt; "the archives agree")?;
     Ok(())
 }
@@ -90,7 +92,7 @@ fn run_named(
     history: &History,
     tally: &mut Tally,
 ) -> anyhow::Result<()> {
-    let held = hold_history(rt.alloc(), history, tally);
+    let held = history.hold(rt.alloc(), tally);
     println!(rt; "case: {name}")?;
     if let Err(stop) = held {
         print_history(rt, history)?;
@@ -102,7 +104,7 @@ fn run_named(
 // The history of this number; where the archives are apart it is printed.
 fn run_number(rt: &HostRuntime, number: u64, tally: &mut Tally) -> anyhow::Result<()> {
     let history = history_by(rt.alloc(), SEED, number)?;
-    if let Err(stop) = hold_history(rt.alloc(), &history, tally) {
+    if let Err(stop) = history.hold(rt.alloc(), tally) {
         println!(rt; "history {SEED} {number}")?;
         print_history(rt, &history)?;
         tell(rt, stop)?;

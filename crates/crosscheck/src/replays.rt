@@ -5,6 +5,7 @@ use crate::case::Case;
 use crate::compare::{answer, hold_members, same_rows};
 use crate::histories::{Call, History};
 use crate::house::{Lent, Sizes, lent_of};
+use crate::numbered::Numbered;
 use crate::second::Second;
 use crate::tally::{Tally, one_more};
 use crate::told::Told;

@@ -1,5 +1,6 @@
 // What a call on the second archive comes to: what it tells, and what it writes.
 use crate::failed::Failed;
+use crate::numbered::Numbered;
 use crate::second::Judged;
 use crate::told::{Fed, Told};
 use std::alloc::AllocError;

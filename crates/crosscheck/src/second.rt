@@ -5,6 +5,7 @@ use crate::blocks::{BLOCK, Fault, Found, Layer, read_block, trials_to_a_block, w
 use crate::denial::Denial;
 use crate::failed::Failed;
 use crate::figures::{Point, Rules, admits, boxes, dominates, worths};
+use crate::numbered::Numbered;
 use crate::told::{Fed, NotRestored};
 use crate::verdict::Verdict;
 use std::alloc::{AllocError, Global};
@@ -124,10 +125,10 @@ impl Second {
     fn update(&mut self, trial: Member) -> Result<Judged, Failed<Denial>> {
         let below = self.rows_below(&trial)?;
         if !below.is_empty() {
-            return self.enter(Verdict::Displaced, below.as_slice(), trial);
+            return Ok(self.enter(Verdict::Displaced, below.as_slice(), trial)?);
         }
         if let Some(row) = self.row_beaten(&trial) {
-            return self.enter(Verdict::Replaced, &[row], trial);
+            return Ok(self.enter(Verdict::Replaced, &[row], trial)?);
         }
         if self.is_shut_out(&trial) {
             return Ok(Judged {
@@ -138,7 +139,7 @@ impl Second {
         if self.members.len() >= self.rows {
             return Err(Failed::For(Denial::Full));
         }
-        self.enter(Verdict::Entered, &[], trial)
+        Ok(self.enter(Verdict::Entered, &[], trial)?)
     }
 
     // The trial enters with this verdict, and the members in these rows go.
@@ -147,7 +148,7 @@ impl Second {
         verdict: Verdict,
         rows: &[usize],
         trial: Member,
-    ) -> Result<Judged, Failed<Denial>> {
+    ) -> Result<Judged, AllocError> {
         let gone = self.trade(rows, trial)?;
         Ok(Judged { verdict, gone })
     }

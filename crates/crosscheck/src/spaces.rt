@@ -5,6 +5,7 @@ use crate::case::Case;
 use crate::denial::Denial;
 use crate::figures::{Better, Ratios, Rule, Steps};
 use crate::histories::{History, Kind, Scales, Shape};
+use crate::numbered::Numbered;
 use crate::tally::{Tally, one_more};
 use beside::Beside;
 use ratio::RatioSpace;
@@ -172,55 +173,53 @@ where
     }
 }
 
-// A history over one space.
-fn hold_one<S: OfRules>(heap: Global, history: &History, tally: &mut Tally) -> Result<(), Stop>
-where
-    S::Point: Figured,
-{
-    let Some(space) = made::<S>(heap, history.scales.first.as_slice(), tally)? else {
-        return Ok(());
-    };
-    Case::new(heap, space, history).hold(tally)
-}
+impl History {
+    // The history over one space.
+    fn hold_alone<S: OfRules>(&self, heap: Global, tally: &mut Tally) -> Result<(), Stop>
+    where
+        S::Point: Figured,
+    {
+        let Some(space) = made::<S>(heap, self.scales.first.as_slice(), tally)? else {
+            return Ok(());
+        };
+        Case::new(heap, space, self).hold(tally)
+    }
 
-// A history over two spaces side by side.
-fn hold_pair<A: OfRules, B: OfRules>(
-    heap: Global,
-    history: &History,
-    tally: &mut Tally,
-) -> Result<(), Stop>
-where
-    (A::Point, B::Point): Figured,
-{
-    let scales = &history.scales;
-    let Some(first) = made::<A>(heap, scales.first.as_slice(), tally)? else {
-        return Ok(());
-    };
-    let Some(second) = made::<B>(heap, scales.second.as_slice(), tally)? else {
-        return Ok(());
-    };
-    let Some(space) = paired(first, second, scales, tally)? else {
-        return Ok(());
-    };
-    Case::new(heap, space, history).hold(tally)
-}
+    // The history over two spaces side by side.
+    fn hold_pair<A: OfRules, B: OfRules>(&self, heap: Global, tally: &mut Tally) -> Result<(), Stop>
+    where
+        (A::Point, B::Point): Figured,
+    {
+        let scales = &self.scales;
+        let Some(first) = made::<A>(heap, scales.first.as_slice(), tally)? else {
+            return Ok(());
+        };
+        let Some(second) = made::<B>(heap, scales.second.as_slice(), tally)? else {
+            return Ok(());
+        };
+        let Some(space) = paired(first, second, scales, tally)? else {
+            return Ok(());
+        };
+        Case::new(heap, space, self).hold(tally)
+    }
 
-// A history over its space, if that can be made. The kind is a value and the space a type, so each kind has an arm.
-pub(crate) fn hold_history(heap: Global, history: &History, tally: &mut Tally) -> Result<(), Stop> {
-    match history.scales.kind {
-        Kind::Alone(Shape::Step) => hold_one::<StepSpace>(heap, history, tally),
-        Kind::Alone(Shape::Ratio) => hold_one::<RatioSpace>(heap, history, tally),
-        Kind::Pair(Shape::Step, Shape::Step) => {
-            hold_pair::<StepSpace, StepSpace>(heap, history, tally)
-        }
-        Kind::Pair(Shape::Step, Shape::Ratio) => {
-            hold_pair::<StepSpace, RatioSpace>(heap, history, tally)
-        }
-        Kind::Pair(Shape::Ratio, Shape::Step) => {
-            hold_pair::<RatioSpace, StepSpace>(heap, history, tally)
-        }
-        Kind::Pair(Shape::Ratio, Shape::Ratio) => {
-            hold_pair::<RatioSpace, RatioSpace>(heap, history, tally)
+    // The history over its space, if that can be made. The kind is a value and the space a type, so each kind has an arm.
+    pub(crate) fn hold(&self, heap: Global, tally: &mut Tally) -> Result<(), Stop> {
+        match self.scales.kind {
+            Kind::Alone(Shape::Step) => self.hold_alone::<StepSpace>(heap, tally),
+            Kind::Alone(Shape::Ratio) => self.hold_alone::<RatioSpace>(heap, tally),
+            Kind::Pair(Shape::Step, Shape::Step) => {
+                self.hold_pair::<StepSpace, StepSpace>(heap, tally)
+            }
+            Kind::Pair(Shape::Step, Shape::Ratio) => {
+                self.hold_pair::<StepSpace, RatioSpace>(heap, tally)
+            }
+            Kind::Pair(Shape::Ratio, Shape::Step) => {
+                self.hold_pair::<RatioSpace, StepSpace>(heap, tally)
+            }
+            Kind::Pair(Shape::Ratio, Shape::Ratio) => {
+                self.hold_pair::<RatioSpace, RatioSpace>(heap, tally)
+            }
         }
     }
 }

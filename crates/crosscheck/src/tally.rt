@@ -1,5 +1,6 @@
 // What has been tried so far.
 use crate::denial::Denial;
+use crate::numbered::Numbered;
 use crate::told::{Fed, Told};
 use crate::verdict::Verdict;
 
@@ -9,8 +10,8 @@ pub(crate) struct Tally {
     pub histories: u64,
     pub calls: u64,
     pub trials: u64,
-    verdicts: [u64; 4],
-    denials: [u64; 15],
+    pub verdicts: [u64; 4],
+    pub denials: [u64; 15],
     pub displaced: u64,
     pub members: usize,
     pub most_blocks: usize,
@@ -34,19 +35,12 @@ fn more(count: &mut u64, by: usize) {
     *count = count.saturating_add(u64::try_from(by).unwrap_or(0));
 }
 
+// Whether each of a kind occurred.
+fn has_each<K: Numbered>(counts: &[u64]) -> bool {
+    K::ALL.iter().all(|kind| kind.count_in(counts) > 0)
+}
+
 impl Tally {
-    // How often this verdict occurred.
-    pub(crate) fn of_verdict(&self, verdict: Verdict) -> u64 {
-        let count = self.verdicts.get(usize::from(verdict.number()));
-        count.copied().unwrap_or(0)
-    }
-
-    // How often this denial occurred.
-    pub(crate) fn of_denial(&self, denial: Denial) -> u64 {
-        let count = self.denials.get(usize::from(denial.number()));
-        count.copied().unwrap_or(0)
-    }
-
     // A denial of this number.
     pub(crate) fn denial(&mut self, number: u8) {
         if let Some(count) = self.denials.get_mut(usize::from(number)) {
@@ -90,9 +84,6 @@ impl Tally {
 
     // Whether each verdict and each denial occurred.
     pub(crate) fn is_whole(&self) -> bool {
-        Verdict::ALL
-            .iter()
-            .all(|verdict| self.of_verdict(*verdict) > 0)
-            && Denial::ALL.iter().all(|denial| self.of_denial(*denial) > 0)
+        has_each::<Verdict>(&self.verdicts) && has_each::<Denial>(&self.denials)
     }
 }

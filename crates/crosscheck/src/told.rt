@@ -2,6 +2,7 @@
 // archives share no type, and the numbers are what they are compared by.
 use crate::blocks::Fault;
 use crate::denial::Denial;
+use crate::numbered::Numbered;
 use crate::verdict::Verdict;
 
 // What the trials of a block came to.

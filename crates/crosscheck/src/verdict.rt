@@ -1,4 +1,5 @@
 // How the second archive judges a trial, with the product's number for each verdict and what the account calls it.
+use crate::numbered::Numbered;
 use std::fmt;
 
 #[derive(Clone, Copy)]
@@ -9,16 +10,17 @@ pub(crate) enum Verdict {
     Replaced = 3,
 }
 
-impl Verdict {
-    pub(crate) const ALL: [Verdict; 4] = [
+impl Numbered for Verdict {
+    const NOUN: &'static str = "verdict";
+
+    const ALL: &'static [Verdict] = &[
         Verdict::PassedOver,
         Verdict::Entered,
         Verdict::Displaced,
         Verdict::Replaced,
     ];
 
-    // The number of this verdict.
-    pub(crate) fn number(self) -> u8 {
+    fn number(self) -> u8 {
         self as u8
     }
 }
