@@ -2,7 +2,7 @@
 use crate::apart::{Moment, Stop};
 use crate::bridge::Figured;
 use crate::case::Case;
-use crate::histories::Call;
+use crate::histories::{Call, Task};
 use crate::making::tag_by;
 use crate::replays::Both;
 use crate::second::Member;
@@ -43,11 +43,13 @@ impl Source<'_> {
 
     // An offer over the archive's own rows.
     fn plain_offer(&mut self) -> Call {
-        Call::Offer {
+        Call {
             rows: self.rows,
-            room: self.rows,
-            tag: tag_by(&mut self.chance),
-            point: self.some_point(),
+            task: Task::Offer {
+                room: self.rows,
+                tag: tag_by(&mut self.chance),
+                point: self.some_point(),
+            },
         }
     }
 }
@@ -63,9 +65,12 @@ where
         both: &mut Both<S>,
         tally: &mut Tally,
     ) -> Result<(), Stop> {
-        let rows = self.history.rows;
         one_more(&mut tally.audits);
-        self.hold_call(both, &Call::Audit { rows }, tally)?;
+        let audit = Call {
+            rows: self.history.rows,
+            task: Task::Audit,
+        };
+        self.hold_call(both, &audit, tally)?;
         for _ in 0..3 {
             one_more(&mut tally.offers);
             self.hold_call(both, &source.plain_offer(), tally)?;

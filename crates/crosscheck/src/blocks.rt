@@ -196,6 +196,7 @@ pub(crate) fn read_block(
 ) -> Result<Vec<Found>, Failed<Fault>> {
     check_head(rules, bytes)?;
     let mut trials = Vec::new(heap);
+    // no record says how many come after it, but each says where the next one begins
     let mut place = RECORDS_AT;
     for _ in 0..byte_at(bytes, 1) {
         let record = record_at(rules, bytes, place)?;

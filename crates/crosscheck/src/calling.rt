@@ -2,7 +2,7 @@
 use crate::blocks::BLOCK;
 use crate::chance::{Chance, Spread};
 use crate::figures::{Point, Rules, row_need};
-use crate::histories::{Call, History, Scales};
+use crate::histories::{Call, History, Scales, Task};
 use crate::making::{bent_scales_by, point_by, scales_by, tag_by, wide_scales_by};
 use crate::source::Source;
 use std::alloc::{AllocError, Global};
@@ -56,11 +56,13 @@ impl Source<'_> {
     // An offer.
     fn offer(&mut self) -> Call {
         let point = self.some_point();
-        Call::Offer {
+        Call {
             rows: self.rows_asked(),
-            room: self.room_asked(),
-            tag: tag_by(&mut self.chance),
-            point,
+            task: Task::Offer {
+                room: self.room_asked(),
+                tag: tag_by(&mut self.chance),
+                point,
+            },
         }
     }
 
@@ -79,27 +81,31 @@ impl Source<'_> {
             2 => 513,
             _ => BLOCK,
         };
-        Call::Save {
+        Call {
             rows: self.rows_asked(),
-            number,
-            size,
+            task: Task::Save { number, size },
         }
     }
 
     // One call.
     fn call(&mut self) -> Result<Call, AllocError> {
         Ok(match self.chance.below(24) {
-            0 => Call::Audit {
+            0 => Call {
                 rows: self.rows_asked(),
+                task: Task::Audit,
             },
-            1 => Call::List {
+            1 => Call {
                 rows: self.rows_asked(),
-                room: self.chance.size(self.rows.saturating_add(2)),
+                task: Task::List {
+                    room: self.chance.size(self.rows.saturating_add(2)),
+                },
             },
             2 => self.save(),
-            3..8 => Call::Feed {
+            3..8 => Call {
                 rows: self.rows_asked(),
-                block: self.block()?,
+                task: Task::Feed {
+                    block: self.block()?,
+                },
             },
             _ => self.offer(),
         })

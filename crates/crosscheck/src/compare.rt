@@ -3,7 +3,7 @@ use crate::apart::{Stop, same, same_told};
 use crate::bridge::Figured;
 use crate::case::Case;
 use crate::figures::Point;
-use crate::histories::Call;
+use crate::histories::{Call, Task};
 use crate::house::{Lent, Sizes, ask};
 use crate::replays::Both;
 use crate::reply::{Reply, Written, reply_of};
@@ -15,26 +15,19 @@ use std::alloc::AllocError;
 
 // A call on the second archive.
 pub(crate) fn answer(second: &mut Second, sizes: &Sizes, call: &Call) -> Result<Reply, AllocError> {
-    match call {
-        Call::Offer {
-            rows,
-            room,
-            tag,
-            point,
-        } => {
-            let said = second.offer(sizes.rows(*rows), (*room).min(sizes.more), *tag, point);
+    let rows = sizes.rows(call.rows);
+    match &call.task {
+        Task::Offer { room, tag, point } => {
+            let said = second.offer(rows, (*room).min(sizes.more), *tag, point);
             reply_of(said, Reply::judged)
         }
-        Call::Feed { rows, block } => {
-            reply_of(second.feed(sizes.rows(*rows), block.as_slice()), Reply::fed)
+        Task::Feed { block } => reply_of(second.feed(rows, block.as_slice()), Reply::fed),
+        Task::Audit => reply_of(second.audit(rows), Reply::audited),
+        Task::List { room } => {
+            reply_of(second.list(rows, (*room).min(sizes.more)), Reply::listed)
         }
-        Call::Audit { rows } => reply_of(second.audit(sizes.rows(*rows)), Reply::audited),
-        Call::List { rows, room } => {
-            let said = second.list(sizes.rows(*rows), (*room).min(sizes.more));
-            reply_of(said, Reply::listed)
-        }
-        Call::Save { rows, number, size } => {
-            let said = second.save(sizes.rows(*rows), *number, (*size).min(sizes.block));
+        Task::Save { number, size } => {
+            let said = second.save(rows, *number, (*size).min(sizes.block));
             reply_of(said, Reply::saved)
         }
     }

@@ -17,31 +17,21 @@ pub(crate) enum Kind {
     Pair(Shape, Shape),
 }
 
-// A call with what it is to be lent: how many rows, how much of the list, how much of the block.
+// What a call does, with what it is to be lent beside the rows: how much of the list, how much of the block.
 #[derive(Drop)]
-pub(crate) enum Call {
-    Offer {
-        rows: usize,
-        room: usize,
-        tag: u32,
-        point: Point,
-    },
-    Feed {
-        rows: usize,
-        block: Vec<u8>,
-    },
-    Audit {
-        rows: usize,
-    },
-    List {
-        rows: usize,
-        room: usize,
-    },
-    Save {
-        rows: usize,
-        number: usize,
-        size: usize,
-    },
+pub(crate) enum Task {
+    Offer { room: usize, tag: u32, point: Point },
+    Feed { block: Vec<u8> },
+    Audit,
+    List { room: usize },
+    Save { number: usize, size: usize },
+}
+
+// A call, and how many rows it is to be lent.
+#[derive(Drop)]
+pub(crate) struct Call {
+    pub rows: usize,
+    pub task: Task,
 }
 
 // The rules of two spaces, of which the second has none where there is one space alone.

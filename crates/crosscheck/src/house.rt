@@ -1,7 +1,7 @@
 // The first archive, asked by its own calls, with what it is lent.
 use crate::bridge::{Figured, told};
 use crate::figures::{PLACES, Point};
-use crate::histories::{Call, History};
+use crate::histories::{Call, History, Task};
 use crate::told::{Fed, Told};
 use archive::Archive;
 use space::{Recorded, Trial};
@@ -90,44 +90,32 @@ pub(crate) fn ask<S: Recorded>(
 where
     S::Point: Figured,
 {
-    match call {
-        Call::Offer {
-            rows,
-            room,
-            tag,
-            point,
-        } => {
+    let rows = rows_for(&mut lent.own, &mut lent.strange, call.rows);
+    let list = lent.list.as_mut_slice();
+    match &call.task {
+        Task::Offer { room, tag, point } => {
             let trial = Trial {
                 point: S::Point::of_figures(point),
                 tag: *tag,
             };
-            let room = (*room).min(lent.list.len());
-            let rows = rows_for(&mut lent.own, &mut lent.strange, *rows);
-            let said = archive.offer(trial, rows, &mut lent.list.as_mut_slice()[..room]);
-            told(said, Told::from)
+            let room = (*room).min(list.len());
+            told(archive.offer(trial, rows, &mut list[..room]), Told::from)
         }
-        Call::Feed { rows, block } => {
-            let rows = rows_for(&mut lent.own, &mut lent.strange, *rows);
+        Task::Feed { block } => {
             told(
                 archive.feed(block.as_slice(), rows),
                 |fed| Told::Fed(Fed::from(fed)),
             )
         }
-        Call::Audit { rows } => {
-            let rows = rows_for(&mut lent.own, &mut lent.strange, *rows);
-            told(archive.audit(rows), Told::Audited)
+        Task::Audit => told(archive.audit(rows), Told::Audited),
+        Task::List { room } => {
+            let room = (*room).min(list.len());
+            told(archive.list(rows, &mut list[..room]), Told::Listed)
         }
-        Call::List { rows, room } => {
-            let room = (*room).min(lent.list.len());
-            let rows = rows_for(&mut lent.own, &mut lent.strange, *rows);
-            let said = archive.list(rows, &mut lent.list.as_mut_slice()[..room]);
-            told(said, Told::Listed)
-        }
-        Call::Save { rows, number, size } => {
+        Task::Save { number, size } => {
             let size = (*size).min(lent.block.len());
-            let rows = rows_for(&mut lent.own, &mut lent.strange, *rows);
-            let said = archive.save(rows, *number, &mut lent.block.as_mut_slice()[..size]);
-            told(said, Told::Saved)
+            let block = &mut lent.block.as_mut_slice()[..size];
+            told(archive.save(rows, *number, block), Told::Saved)
         }
     }
 }

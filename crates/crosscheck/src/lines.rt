@@ -1,7 +1,7 @@
 // A history as lines of text, and where the archives were found apart.
 use crate::apart::Apart;
 use crate::figures::{Point, Ratios, Rule, Steps};
-use crate::histories::{Call, History};
+use crate::histories::{Call, History, Task};
 use crate::told::Told;
 use std::io;
 
@@ -42,24 +42,20 @@ fn print_bytes(rt: &HostRuntime, block: &[u8]) -> io::Result<()> {
 
 // One call.
 fn print_call(rt: &HostRuntime, number: usize, call: &Call) -> io::Result<()> {
+    let rows = call.rows;
     print!(rt; "call {number} ")?;
-    match call {
-        Call::Offer {
-            rows,
-            room,
-            tag,
-            point,
-        } => {
+    match &call.task {
+        Task::Offer { room, tag, point } => {
             print!(rt; "offer rows {rows} list {room} tag {tag} figures")?;
             print_point(rt, point)
         }
-        Call::Feed { rows, block } => {
+        Task::Feed { block } => {
             print!(rt; "feed rows {rows} block of ")?;
             print_bytes(rt, block.as_slice())
         }
-        Call::Audit { rows } => println!(rt; "audit rows {rows}"),
-        Call::List { rows, room } => println!(rt; "list rows {rows} list {room}"),
-        Call::Save { rows, number, size } => {
+        Task::Audit => println!(rt; "audit rows {rows}"),
+        Task::List { room } => println!(rt; "list rows {rows} list {room}"),
+        Task::Save { number, size } => {
             println!(rt; "save rows {rows} number {number} block of {size} bytes")
         }
     }

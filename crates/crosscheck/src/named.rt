@@ -2,7 +2,7 @@
 use crate::blocks::BLOCK;
 use crate::calling::history_of;
 use crate::figures::{Better, Ratios, Rule, Steps};
-use crate::histories::{Call, History, Kind, Scales, Shape};
+use crate::histories::{Call, History, Kind, Scales, Shape, Task};
 use std::alloc::{AllocError, Global};
 
 // A history and its name.
@@ -31,12 +31,12 @@ fn square(heap: Global, high: i32, step: u32) -> Result<Scales, AllocError> {
 fn offers(heap: Global, rows: usize, points: &[(i64, i64)]) -> Result<Vec<Call>, AllocError> {
     let mut calls = Vec::new(heap);
     for (tag, (x, y)) in (1u32..).zip(points) {
-        calls.push(Call::Offer {
-            rows,
+        let task = Task::Offer {
             room: rows,
             tag,
             point: [*x, *y, 0, 0, 0, 0, 0, 0, 0, 0, 0, 0],
-        })?;
+        };
+        calls.push(Call { rows, task })?;
     }
     end(&mut calls, rows)?;
     Ok(calls)
@@ -44,13 +44,13 @@ fn offers(heap: Global, rows: usize, points: &[(i64, i64)]) -> Result<Vec<Call>,
 
 // An audit, a list and a save.
 fn end(calls: &mut Vec<Call>, rows: usize) -> Result<(), AllocError> {
-    calls.push(Call::Audit { rows })?;
-    calls.push(Call::List { rows, room: rows })?;
-    calls.push(Call::Save {
-        rows,
+    let save = Task::Save {
         number: 0,
         size: BLOCK,
-    })?;
+    };
+    for task in [Task::Audit, Task::List { room: rows }, save] {
+        calls.push(Call { rows, task })?;
+    }
     Ok(())
 }
 
@@ -103,6 +103,9 @@ pub(crate) fn named_histories(heap: Global) -> Result<Vec<Named>, AllocError> {
     ]?)
 }
 
+// How many rows the log is fed to.
+const LOG_ROWS: usize = 32;
+
 // The log of these bytes, fed block by block to 32 rows over delay beside life, with an audit, a list and a save at the end.
 pub(crate) fn log_history(heap: Global, bytes: &[u8]) -> Result<History, AllocError> {
     let delay = Rule::Step(Steps {
@@ -123,8 +126,11 @@ pub(crate) fn log_history(heap: Global, bytes: &[u8]) -> Result<History, AllocEr
     let mut calls = Vec::new(heap);
     for piece in bytes.chunks(BLOCK) {
         let block = piece.to_vec(heap)?;
-        calls.push(Call::Feed { rows: 32, block })?;
+        calls.push(Call {
+            rows: LOG_ROWS,
+            task: Task::Feed { block },
+        })?;
     }
-    end(&mut calls, 32)?;
-    Ok(history_of(heap, scales, 32, calls))
+    end(&mut calls, LOG_ROWS)?;
+    Ok(history_of(heap, scales, LOG_ROWS, calls))
 }

@@ -3,7 +3,7 @@ use crate::apart::{Moment, Stop, same, same_told};
 use crate::bridge::Figured;
 use crate::case::Case;
 use crate::compare::{answer, hold_members, same_rows};
-use crate::histories::{Call, History};
+use crate::histories::{Call, History, Task};
 use crate::house::{Lent, Sizes, lent_of};
 use crate::numbered::Numbered;
 use crate::second::Second;
@@ -31,26 +31,19 @@ trait AskOf<'a>: Drop {
 // The three kinds that every space has.
 impl<'a, P: Figured> AskOf<'a> for Ask<P> {
     fn ask_of(call: &'a Call) -> Option<Ask<P>> {
-        match call {
-            Call::Offer {
+        let rows = call.rows;
+        match &call.task {
+            Task::Offer { room, tag, point } => Some(Ask::Offer {
                 rows,
-                room,
-                tag,
-                point,
-            } => Some(Ask::Offer {
-                rows: *rows,
                 room: *room,
                 trial: Trial {
                     point: P::of_figures(point),
                     tag: *tag,
                 },
             }),
-            Call::Audit { rows } => Some(Ask::Audit { rows: *rows }),
-            Call::List { rows, room } => Some(Ask::List {
-                rows: *rows,
-                room: *room,
-            }),
-            _ => None,
+            Task::Audit => Some(Ask::Audit { rows }),
+            Task::List { room } => Some(Ask::List { rows, room: *room }),
+            Task::Feed { .. } | Task::Save { .. } => None,
         }
     }
 }
@@ -58,17 +51,19 @@ impl<'a, P: Figured> AskOf<'a> for Ask<P> {
 // All kinds.
 impl<'a, P: Figured> AskOf<'a> for RecordedAsk<'a, P> {
     fn ask_of(call: &'a Call) -> Option<RecordedAsk<'a, P>> {
-        match call {
-            Call::Feed { rows, block } => Some(RecordedAsk::Feed {
-                rows: *rows,
+        let rows = call.rows;
+        match &call.task {
+            Task::Feed { block } => Some(RecordedAsk::Feed {
+                rows,
                 block: block.as_slice(),
             }),
-            Call::Save { rows, number, size } => Some(RecordedAsk::Save {
-                rows: *rows,
+            Task::Save { number, size } => Some(RecordedAsk::Save {
+                rows,
                 number: *number,
                 size: *size,
             }),
             _ => {
+                // by `?`, since a `map` gets no proof where the other arms lend the call
                 let plain = Ask::ask_of(call)?;
                 Some(RecordedAsk::Plain(plain))
             }
@@ -128,7 +123,7 @@ fn hold_turns<P: Figured>(
 ) -> Result<(), Stop> {
     let sizes = Sizes::of(history);
     let calls = history.calls.iter().enumerate().filter(|(_, call)| {
-        !matches!(call, Call::Feed { .. } | Call::Save { .. })
+        !matches!(call.task, Task::Feed { .. } | Task::Save { .. })
     });
     for (turn, (i, call)) in turns.iter().zip(calls) {
         let told = answer(second, &sizes, call)?.told;
