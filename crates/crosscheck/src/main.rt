@@ -85,6 +85,12 @@ fn tell(rt: &HostRuntime, stop: Stop) -> anyhow::Result<()> {
     Err(stop.into())
 }
 
+// The history at which a run ends early, and what ends it.
+fn tell_at(rt: &HostRuntime, history: &History, stop: Stop) -> anyhow::Result<()> {
+    print_history(rt, history)?;
+    tell(rt, stop)
+}
+
 // A history that has a name; where the archives are apart it is printed.
 fn run_named(
     rt: &HostRuntime,
@@ -94,22 +100,16 @@ fn run_named(
 ) -> anyhow::Result<()> {
     let held = history.hold(rt.alloc(), tally);
     println!(rt; "case: {name}")?;
-    if let Err(stop) = held {
-        print_history(rt, history)?;
-        tell(rt, stop)?;
-    }
-    Ok(())
+    held.or_else(|stop| tell_at(rt, history, stop))
 }
 
 // The history of this number; where the archives are apart it is printed.
 fn run_number(rt: &HostRuntime, number: u64, tally: &mut Tally) -> anyhow::Result<()> {
     let history = history_by(rt.alloc(), SEED, number)?;
-    if let Err(stop) = history.hold(rt.alloc(), tally) {
+    history.hold(rt.alloc(), tally).or_else(|stop| {
         println!(rt; "history {SEED} {number}")?;
-        print_history(rt, &history)?;
-        tell(rt, stop)?;
-    }
-    Ok(())
+        tell_at(rt, &history, stop)
+    })
 }
 
 // All histories: those with a name, the log, and those made up by chance.
