@@ -107,16 +107,11 @@ impl Rule {
     // Whether the numbers of the rule are allowed.
     pub(crate) fn is_sound(&self) -> bool {
         let in_range = match self {
-            Rule::Step(
-                Steps {
-                    low,
-                    high,
-                    step,
-                    ..
-                },
-            ) => low <= high && (1..=2_147_483_647).contains(step),
-            Rule::Ratio(Ratios { per_cent, ceiling }) => {
-                (1..=100).contains(per_cent) && (1..=1_000_000).contains(ceiling)
+            Rule::Step(steps) => {
+                steps.low <= steps.high && (1..=2_147_483_647).contains(&steps.step)
+            }
+            Rule::Ratio(ratios) => {
+                (1..=100).contains(&ratios.per_cent) && (1..=1_000_000).contains(&ratios.ceiling)
             }
         };
         in_range && self.extent() <= 1024
@@ -125,10 +120,10 @@ impl Rule {
     // Whether a figure is on the grid.
     pub(crate) fn admits(&self, figure: i64) -> bool {
         match self {
-            Rule::Step(Steps { low, high, .. }) => {
-                i64::from(*low) <= figure && figure <= i64::from(*high)
+            Rule::Step(steps) => {
+                i64::from(steps.low) <= figure && figure <= i64::from(steps.high)
             }
-            Rule::Ratio(Ratios { ceiling, .. }) => 1 <= figure && figure <= i64::from(*ceiling),
+            Rule::Ratio(ratios) => 1 <= figure && figure <= i64::from(ratios.ceiling),
         }
     }
 

@@ -3,7 +3,7 @@ use crate::apart::{Stop, same};
 use crate::bridge::Figured;
 use crate::case::Case;
 use crate::denial::Denial;
-use crate::figures::{Better, Ratios, Rule, Steps};
+use crate::figures::{Better, Rule};
 use crate::histories::{History, Kind, Scales, Shape};
 use crate::numbered::Numbered;
 use crate::tally::{Tally, one_more};
@@ -38,18 +38,11 @@ impl OfRules for StepSpace {
 
     fn scale_of(rule: &Rule) -> Option<step::Scale> {
         match rule {
-            Rule::Step(
-                Steps {
-                    better,
-                    low,
-                    high,
-                    step,
-                },
-            ) => Some(step::Scale {
-                direction: Direction::from(*better),
-                low: *low,
-                high: *high,
-                step: *step,
+            Rule::Step(steps) => Some(step::Scale {
+                direction: Direction::from(steps.better),
+                low: steps.low,
+                high: steps.high,
+                step: steps.step,
             }),
             Rule::Ratio(_) => None,
         }
@@ -65,9 +58,9 @@ impl OfRules for RatioSpace {
 
     fn scale_of(rule: &Rule) -> Option<ratio::Scale> {
         match rule {
-            Rule::Ratio(Ratios { per_cent, ceiling }) => Some(ratio::Scale {
-                per_cent: *per_cent,
-                ceiling: *ceiling,
+            Rule::Ratio(ratios) => Some(ratio::Scale {
+                per_cent: ratios.per_cent,
+                ceiling: ratios.ceiling,
             }),
             Rule::Step(_) => None,
         }
