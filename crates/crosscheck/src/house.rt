@@ -68,7 +68,8 @@ pub(crate) fn lent_of<P: Figured>(heap: Global, sizes: &Sizes) -> Result<Lent<P>
     })
 }
 
-// The rows that are lent where so many are wanted. Both kinds are parameters, since a call borrows the list or the block beside them.
+// The rows that are lent where so many are wanted. Both kinds are parameters and not all that is lent, since a call borrows the
+// list or the block beside them.
 fn rows_for<'a, P: Copy>(
     own: &'a mut Vec<Trial<P>>,
     strange: &'a mut Vec<Trial<P>>,

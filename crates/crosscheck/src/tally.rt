@@ -4,7 +4,7 @@ use crate::numbered::Numbered;
 use crate::told::{Fed, Told};
 use crate::verdict::Verdict;
 
-// How often each thing occurred. Verdicts and denials are counted in the places of their numbers; no denial has the number 0.
+// How often each thing occurred. Verdicts and denials are counted in the places of their numbers, and no denial has the number 0.
 #[derive(Clone, Copy, Default)]
 pub(crate) struct Tally {
     pub histories: u64,

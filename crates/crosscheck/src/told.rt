@@ -1,11 +1,11 @@
-// What the calls of either archive tell. Verdicts, denials and faults are told by the product's own numbers and not by enums: the two
-// archives share no type, and the numbers are what they are compared by.
+// What the calls of either archive tell. Verdicts, denials and faults are told by the product's own numbers and not by enums:
+// the two archives share no type, and the numbers are what they are compared by.
 use crate::blocks::Fault;
 use crate::denial::Denial;
 use crate::numbered::Numbered;
 use crate::verdict::Verdict;
 
-// What the trials of a block came to.
+// What the trials of a block came to. The first archive has such a type too, and its own sum: the two share none.
 #[derive(Clone, Copy, PartialEq, Eq, Debug, Default)]
 pub(crate) struct Fed {
     pub entered: usize,
