@@ -1,5 +1,5 @@
--- A feed or a save over the archive's own rows or over strange ones, as it is asked for.
-use Rattle.std.proofs.Common.{◌≡◌, ℕ, ◌≤◌, cond, not, eqb, leb, List, [], ◌++◌, length, take, drop, is_err, Ok, Err, Result, sym, refl, ap, ◌∙◌, subst, ⊎_elim, inl, inr, arith}
+-- A call of any kind over the rows that it is lent, a feed or a save among them.
+use Rattle.std.proofs.Common.{◌≡◌, ℕ, ◌≤◌, true, cond, not, eqb, leb, List, ◌++◌, length, take, drop, is_err, Ok, Err, Result, sym, refl, ap, ◌∙◌, subst, ⊎_elim, inl, inr, arith}
 use Rattle.std.specs.Result.{result_map_both}
 use Rattle.std.proofs.lemmas.List.{length-take-le, take-append-drop}
 use Rattle.std.proofs.lemmas.Bool.{cases_Bool, cond-false, cond-true, eqb-true, ne_eqb, not_from_false}
@@ -23,30 +23,49 @@ use Rattle.archive.specs.Lent.{Lent, members}
 use Rattle.archive.specs.Saving.{SaveRight, saved_over}
 use Rattle.archive.specs.Standing.{StaysAs}
 use Rattle.archive.proofs.Idle.{strange_is}
-use Rattle.replay.specs.declared.asking.RecordedAsk.{RecordedAsk}
-use Rattle.replay.specs.Asking.{recorded_call_of}
-use Rattle.replay.specs.Leaving.{Lendings, SaveLeaves}
-use Rattle.replay.specs.Replaying.{RecordedRan}
-use Rattle.replay.proofs.Runs.{over}
+use Rattle.replay.specs.declared.asking.Ask.{Ask}
+use Rattle.replay.specs.declared.asking.Ask.TheVariants as ask
+use Rattle.replay.specs.Asking.{call_of}
+use Rattle.replay.specs.Leaving.{LeavesBlock, LeavesBoth, LeavesList, Lendings, SaveLeaves}
+use Rattle.replay.specs.Replaying.{AnyReading, MadeAs, OwnReading, RanAs, RecordedRan}
 
--- the same call and answer under other names
-pub as_asked : {P : Type 0} (M : Meaning P) (R : Recording P) (c d : Call P) (r s : Answer) (a b : Lent P) (x y : Lendings) → c ≡ d → s ≡ r → RecordedRan M R c a x r b y → RecordedRan M R d a x s b y
-as_asked M R c d r s a b x y e f ran = subst (λ z. RecordedRan M R z a x s b y) e (subst (λ z. RecordedRan M R c a x z b y) (sym f) ran)
+-- a call of any space is as well one of a recorded one, which leaves the block as it was
+kept : {P : Type 0} (M : Meaning P) (R : Recording P) (rows own other long wide : ℕ) (ms : List (Trial P)) (x : Ask P) (before after : List ℕ) → after ≡ before → LeavesBlock M R rows ms (call_of own other long x) before after
+kept M R rows own other long wide ms (ask.Offer lent room t) before after e = e
+kept M R rows own other long wide ms (ask.Audit lent) before after e = e
+kept M R rows own other long wide ms (ask.List lent room) before after e = e
 
-module _ {P : Type 0} (M : Meaning P) (R : Recording P) (a : Lent P) (n : length a.held ≡ a.rows → ⊥) where
-  -- a feed over strange rows
-  pub ran_feed_strange : (block : List ℕ) (b : Lent P) (r : Result Fed FeedFault) → FeedRight M (read_point R) block a r b → (own : List (Trial P)) (x : Lendings) → RecordedRan M R (feed (length a.held) block) (over a own []) x (told_feed r) (over b own []) x
-  ran_feed_strange block b r right own x =
+module _ {P : Type 0} (M : Meaning P) (R : Recording P) where
+  module _ (own other long wide : ℕ) (ask : Ask P) where
+    abbrev call : Call P
+    call = call_of own other long ask
+
+    ran_plain : (a : Lent P) (x : Lendings) (r : Answer) (b : Lent P) (y : Lendings) → RanAs M AnyReading (LeavesList M) call a x r b y → RecordedRan M R call a x r b y
+    ran_plain a x r b y ran =
+        record {
+          same_rows = ran.same_rows;
+          stays = λ reads _. ran.stays reads tt;
+          leaves = (ran.leaves.0, kept M R a.rows own other long wide (members a) ask x.block y.block ran.leaves.1);
+        }
+
+    pub made_plain : (a : Lent P) (x : Lendings) (r : Answer) (b : Lent P) (y : Lendings) → MadeAs M AnyReading (LeavesList M) call a x r b y → MadeAs M (OwnReading R) (LeavesBoth M R) call a x r b y
+    made_plain a x r b y made =
+        record {
+          own = λ e. ran_plain a x r b y (made.own e);
+          strange = made.strange;
+          apart = λ n held. ran_plain _ x r _ y (made.apart n held);
+        }
+
+  -- a feed: over strange rows it is refused, and alters nothing
+  pub made_feed : (block : List ℕ) (a b : Lent P) (r : Result Fed FeedFault) (x : Lendings) → FeedRight M (read_point R) block a r b → MadeAs M (OwnReading R) (LeavesBoth M R) (feed (length a.held) block) a x (told_feed r) b x
+  made_feed block a b r x right =
+      let call = feed (length a.held) block in
+      let refused : (length a.held ≡ a.rows → ⊥) → is_err r ≡ true = λ n. ap is_err (right.value ∙ ap (result_map_both (tally M a.rows (members a)) (λ f. f)) (cond-false (eqb (length a.held) a.rows) _ _ (ne_eqb (length a.held) a.rows n))) in
       record {
-        same_rows = right.same_rows;
-        stays = λ reads is. subst (λ reads. StaysAs M reads a.rows (feed (length a.held) block) (told_feed r) a.count own b.count own) (sym is) (right.stays_apart n own);
-        leaves = (refl, refl);
+        own = λ _. record { same_rows = right.same_rows; stays = λ reads is. subst (λ reads. StaysAs M reads a.rows call (told_feed r) a.count a.held b.count b.held) (sym is) right.stays; leaves = (refl, refl) };
+        strange = λ n. (right.untouched (refused n)).1;
+        apart = λ n held. record { same_rows = right.same_rows; stays = λ reads is. subst (λ reads. StaysAs M reads a.rows call (told_feed r) a.count held b.count held) (sym is) (right.stays_apart n held); leaves = (refl, refl) };
       }
-
-  -- it is refused, and alters nothing
-  pub feed_strange_untouched : (block : List ℕ) (b : Lent P) (r : Result Fed FeedFault) → FeedRight M (read_point R) block a r b → (b.count ≡ a.count) × (b.held ≡ a.held)
-  feed_strange_untouched block b r right =
-      right.untouched (ap is_err (right.value ∙ ap (result_map_both (tally M a.rows (members a)) (λ f. f)) (cond-false (eqb (length a.held) a.rows) _ _ (ne_eqb (length a.held) a.rows n))))
 
 -- no denial is a success
 never : (d : Denial) (n : ℕ) → ◌≡◌ {A = Result ℕ Denial} (Err d) (Ok n) → ⊥
@@ -78,33 +97,24 @@ module _ {P : Type 0} (M : Meaning P) (R : Recording P) (number : ℕ) (a : Lent
       ap (λ xs. xs ++ drop size whole) block ∙ ap (λ k. saved_block M R ms number ++ drop k whole) full
   leaves_saved ms (Err d) e same f = ap (λ xs. xs ++ drop size whole) (right.block ∙ ap (saved_over M R (members a) number (take size whole)) e) ∙ take-append-drop size whole
 
-  pub ran_save : (list : List ℕ) → RecordedRan M R (save (length a.held) number size) (over a a.held []) (record { list = list; block = whole }) (told answer.Saved r) (over a a.held []) (record { list = list; block = after ++ drop size whole })
-  ran_save list =
-      record {
-        same_rows = refl;
-        stays = λ reads _. subst (λ k. StaysAs M reads a.rows (save (length a.held) number k) (told answer.Saved r) a.count a.held a.count a.held) long (right.stays reads);
-        leaves = (refl, leaves_saved (members a) (save_answer M a.rows (members a) (length a.held) number size) (right.value ∙ ap (save_answer M a.rows (members a) (length a.held) number) long) refl refl);
-      }
-
-  -- over strange rows
-  pub ran_save_strange : (length a.held ≡ a.rows → ⊥) → (own : List (Trial P)) (list : List ℕ) → RecordedRan M R (save (length a.held) number size) (over a own []) (record { list = list; block = whole }) (told answer.Saved r) (over a own []) (record { list = list; block = after ++ drop size whole })
-  ran_save_strange n own list =
+  -- over strange rows the block is left as it was
+  left_unsaved : (length a.held ≡ a.rows → ⊥) → after ++ drop size whole ≡ whole
+  left_unsaved n =
       let denied : r ≡ Err StrangeRows = right.value ∙ sym (strange_is a.rows (length a.held) _ n) in
-      let same : after ++ drop size whole ≡ whole = ap (λ xs. xs ++ drop size whole) (right.block ∙ ap (saved_over M R (members a) number (take size whole)) denied) ∙ take-append-drop size whole in
+      ap (λ xs. xs ++ drop size whole) (right.block ∙ ap (saved_over M R (members a) number (take size whole)) denied) ∙ take-append-drop size whole
+
+  pub made_save : (list : List ℕ) → MadeAs M (OwnReading R) (LeavesBoth M R) (save (length a.held) number size) a (record { list = list; block = whole }) (told answer.Saved r) a (record { list = list; block = after ++ drop size whole })
+  made_save list =
       record {
-        same_rows = refl;
-        stays = λ reads _. subst (λ k. StaysAs M reads a.rows (save (length a.held) number k) (told answer.Saved r) a.count own a.count own) long (right.stays_apart n own reads);
-        leaves = (refl, subst (SaveLeaves M R (take a.count own) number whole (after ++ drop size whole)) (strange_is a.rows (length a.held) _ n) same);
+        own = λ _. record {
+          same_rows = refl;
+          stays = λ reads _. subst (λ k. StaysAs M reads a.rows (save (length a.held) number k) (told answer.Saved r) a.count a.held a.count a.held) long (right.stays reads);
+          leaves = (refl, leaves_saved (members a) (save_answer M a.rows (members a) (length a.held) number size) (right.value ∙ ap (save_answer M a.rows (members a) (length a.held) number) long) refl refl);
+        };
+        strange = λ _. refl;
+        apart = λ n held. record {
+          same_rows = refl;
+          stays = λ reads _. subst (λ k. StaysAs M reads a.rows (save (length a.held) number k) (told answer.Saved r) a.count held a.count held) long (right.stays_apart n held reads);
+          leaves = (refl, subst (SaveLeaves M R (take a.count held) number whole (after ++ drop size whole)) (strange_is a.rows (length a.held) _ n) (left_unsaved n));
+        };
       }
-
--- saves that are lent the same
-pub same_save : {P : Type 0} (m n number k l : ℕ) → m ≡ n → k ≡ l → ◌≡◌ {A = Call P} (save m number k) (save n number l)
-same_save m n number k l e f = cc
-
--- the same block under another name
-pub block_same : {P : Type 0} (M : Meaning P) (R : Recording P) (c : Call P) (r : Answer) (a b : Lent P) (list whole xs ys : List ℕ) → ys ≡ xs → RecordedRan M R c a (record { list = list; block = whole }) r b (record { list = list; block = xs }) → RecordedRan M R c a (record { list = list; block = whole }) r b (record { list = list; block = ys })
-block_same M R c r a b list whole xs ys e ran = subst (λ zs. RecordedRan M R c a (record { list = list; block = whole }) r b (record { list = list; block = zs })) (sym e) ran
-
--- calls that are asked for alike, and lent the same
-pub same_call : {P : Type 0} (own own' other other' long long' wide wide' : ℕ) (x : RecordedAsk P) → own ≡ own' → other ≡ other' → long ≡ long' → wide ≡ wide' → recorded_call_of own other long wide x ≡ recorded_call_of own' other' long' wide' x
-same_call own own' other other' long long' wide wide' x e f h i = cc

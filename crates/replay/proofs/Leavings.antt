@@ -18,8 +18,11 @@ use Rattle.archive.specs.Lent.{Lent, members}
 use Rattle.archive.specs.Listing.{ListRight, listed_over}
 use Rattle.archive.specs.Offering.{OfferRight, TagsInFront, gone_of, to_judge}
 use Rattle.archive.specs.Standing.{StaysAs}
-use Rattle.replay.specs.Leaving.{Leaves, ListLeaves, OfferLeaves}
-use Rattle.replay.specs.Replaying.{Ran}
+use Rattle.archive.proofs.Idle.{strange_is}
+use Rattle.replay.specs.Leaving.{Leaves, LeavesList, ListLeaves, OfferLeaves}
+use Rattle.replay.specs.Replaying.{AnyReading, MadeAs}
+use Rattle.replay.proofs.Made.{bare}
+use Rattle.replay.proofs.Strange.{strange_untouched}
 
 -- the front of the list, which was lent, and the rest
 module _ (whole : List ℕ) (room : ℕ) (within : room ≤ length whole) where
@@ -61,14 +64,27 @@ module _ {P : Type 0} (M : Meaning P) (t : Trial P) (a b : Lent P) (r : Result O
       let denied : is_err r ≡ true = ap is_err (right.value ∙ ap (answer_by M a.rows (members a)) e) in
       ap (λ xs. xs ++ drop room whole) ((right.untouched denied).2 ∙ front) ∙ take-append-drop room whole
 
+  -- over strange rows the list is left as it was
+  left_apart : (length a.held ≡ a.rows → ⊥) → b.list ++ drop room whole ≡ whole
+  left_apart n = ap (λ xs. xs ++ drop room whole) ((strange_untouched M t a b r right n).2 ∙ front) ∙ take-append-drop room whole
+
   -- what holds of the call over the whole list
-  pub ran_offer : Ran M (offer (length a.held) room t) (record { rows = a.rows; count = a.count; held = a.held; list = whole }) (told answer.Offered r) (record { rows = b.rows; count = b.count; held = b.held; list = b.list ++ drop room whole })
-  ran_offer =
+  pub made_offer : (block : List ℕ) → MadeAs M AnyReading (LeavesList M) (offer (length a.held) room t) (bare a) (record { list = whole; block = block }) (told answer.Offered r) (bare b) (record { list = b.list ++ drop room whole; block = block })
+  made_offer block =
       let size : length a.list ≡ room = ap length front ∙ length-take-le room whole within in
+      let said = told answer.Offered r in
       record {
-        same_rows = right.same_rows;
-        stays = λ reads _. subst (λ n. StaysAs M reads a.rows (offer (length a.held) n t) (told answer.Offered r) a.count a.held b.count b.held) size (right.stays reads);
-        leaves = subst (λ n. Leaves M a.rows (members a) (offer (length a.held) n t) whole (b.list ++ drop room whole)) size (leaves_judged (to_judge M a t) refl);
+        own = λ _. record {
+          same_rows = right.same_rows;
+          stays = λ reads _. subst (λ n. StaysAs M reads a.rows (offer (length a.held) n t) said a.count a.held b.count b.held) size (right.stays reads);
+          leaves = (subst (λ n. Leaves M a.rows (members a) (offer (length a.held) n t) whole (b.list ++ drop room whole)) size (leaves_judged (to_judge M a t) refl), refl);
+        };
+        strange = λ n. (strange_untouched M t a b r right n).1;
+        apart = λ n held. record {
+          same_rows = right.same_rows;
+          stays = λ reads _. subst (λ k. StaysAs M reads a.rows (offer (length a.held) k t) said a.count held b.count held) size (right.stays_apart n held reads);
+          leaves = (subst (OfferLeaves M a.rows (take a.count held) whole (b.list ++ drop room whole)) (strange_is a.rows (length a.held) _ n) (left_apart n), refl);
+        };
       }
 
 -- a list that is granted has room for the tags
@@ -99,12 +115,24 @@ module _ {P : Type 0} (M : Meaning P) (a : Lent P) (r : Result ℕ Denial) (afte
       ap (λ xs. xs ++ drop room whole) said ∙ (append_assoc tags (drop n (take room whole)) (drop room whole) ∙ ap (λ xs. tags ++ xs) (past whole room within n (omega (arith, fits, size))))
   leaves_listed (Err d) e f = ap (λ xs. xs ++ drop room whole) (right.tags ∙ (ap (listed_over a) e ∙ front)) ∙ take-append-drop room whole
 
-  pub ran_list : Ran M (list (length a.held) room) (record { rows = a.rows; count = a.count; held = a.held; list = whole }) (told answer.Listed r) (record { rows = a.rows; count = a.count; held = a.held; list = after ++ drop room whole })
-  ran_list =
+  -- over strange rows the list is left as it was
+  left_unlisted : (length a.held ≡ a.rows → ⊥) → after ++ drop room whole ≡ whole
+  left_unlisted n = ap (λ xs. xs ++ drop room whole) (right.tags ∙ (ap (listed_over a) (right.value ∙ sym (strange_is a.rows (length a.held) _ n)) ∙ front)) ∙ take-append-drop room whole
+
+  pub made_list : (block : List ℕ) → MadeAs M AnyReading (LeavesList M) (list (length a.held) room) (bare a) (record { list = whole; block = block }) (told answer.Listed r) (bare a) (record { list = after ++ drop room whole; block = block })
+  made_list block =
       let size : length a.list ≡ room = ap length front ∙ length-take-le room whole within in
       let said = list_answer a.rows (members a) (length a.held) (length a.list) in
       record {
-        same_rows = refl;
-        stays = λ reads _. subst (λ n. StaysAs M reads a.rows (list (length a.held) n) (told answer.Listed r) a.count a.held a.count a.held) size (right.stays reads);
-        leaves = subst (λ n. Leaves M a.rows (members a) (list (length a.held) n) whole (after ++ drop room whole)) size (leaves_listed said right.value refl);
+        own = λ _. record {
+          same_rows = refl;
+          stays = λ reads _. subst (λ n. StaysAs M reads a.rows (list (length a.held) n) (told answer.Listed r) a.count a.held a.count a.held) size (right.stays reads);
+          leaves = (subst (λ n. Leaves M a.rows (members a) (list (length a.held) n) whole (after ++ drop room whole)) size (leaves_listed said right.value refl), refl);
+        };
+        strange = λ _. refl;
+        apart = λ n held. record {
+          same_rows = refl;
+          stays = λ reads _. subst (λ k. StaysAs M reads a.rows (list (length a.held) k) (told answer.Listed r) a.count held a.count held) size (right.stays_apart n held reads);
+          leaves = (subst (ListLeaves (take a.count held) whole (after ++ drop room whole)) (strange_is a.rows (length a.held) _ n) (left_unlisted n), refl);
+        };
       }

@@ -1,7 +1,7 @@
-pub mod Fronts
 pub mod Leavings
-pub mod Runs
+pub mod Made
 pub mod Strange
 pub mod Turns
 pub mod Blocks
 pub mod Listed
+pub mod Loans

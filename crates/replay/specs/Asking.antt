@@ -13,6 +13,17 @@ use Rattle.replay.specs.declared.asking.Turn.{Turn}
 abbrev pub lent_of : ℕ → ℕ → ℕ → ℕ
 lent_of own other want = cond (want == own) own (min want other)
 
+-- how many rows a call wants
+abbrev pub rows_of : {P : Type 0} → Ask P → ℕ
+rows_of (ask.Offer rows room t) = rows
+rows_of (ask.Audit rows) = rows
+rows_of (ask.List rows room) = rows
+
+abbrev pub recorded_rows_of : {P : Type 0} → RecordedAsk P → ℕ
+recorded_rows_of (recorded.Plain x) = rows_of x
+recorded_rows_of (recorded.Feed rows block) = rows
+recorded_rows_of (recorded.Save rows number size) = rows
+
 -- the call that is made, with so many rows of its own, so many strange rows and so long a list at hand
 abbrev pub call_of : {P : Type 0} → ℕ → ℕ → ℕ → Ask P → Call P
 call_of own other long (ask.Offer rows room t) = offer (lent_of own other rows) (min room long) t

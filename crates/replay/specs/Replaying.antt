@@ -1,5 +1,5 @@
 -- What holds of every replay.
-use Rattle.std.specs.Prelude.{◌≡◌, ℕ, List, map, Some, Option}
+use Rattle.std.specs.Prelude.{◌≡◌, ℕ, List, map, length, Some, Option, ◌≢◌}
 use Rattle.space.specs.Meaning.{Meaning}
 use Rattle.space.specs.Recording.{Recording, read_point}
 use Rattle.space.specs.declared.tagged.Trial.{Trial}
@@ -24,6 +24,13 @@ module _ {P X : Type 0} (M : Meaning P) (Reading : (List ℕ → P) → Type 0) 
     pub same_rows : b.rows ≡ a.rows
     pub stays : (reads : List ℕ → P) → Reading reads → StaysAs M reads a.rows call r a.count a.held b.count b.held
     pub leaves : One a.rows (members a) call x y
+
+  -- one call over the rows that it is lent: over the archive's own it is as above, and strange ones it leaves as they are, while
+  -- it is as above over the archive's own, whatever these hold
+  pub record MadeAs (call : Call P) (a : Lent P) (x : X) (r : Answer) (b : Lent P) (y : X) : Type 0 where
+    pub own : length a.held ≡ a.rows → RanAs call a x r b y
+    pub strange : length a.held ≢ a.rows → b.held ≡ a.held
+    pub apart : length a.held ≢ a.rows → (held : List (Trial P)) → RanAs call (record a { held = held }) x r (record b { held = held }) y
 
   -- all calls: there is a history of the calls that were made and the answers that are handed back; the archive and its rows
   -- stand under it; and what was lent holds what these calls leave in it

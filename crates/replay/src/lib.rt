@@ -5,6 +5,7 @@
 
 mod asking;
 mod kinds;
+mod lender;
 mod recorded;
 mod replaying;
 mod running;

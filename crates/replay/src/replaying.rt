@@ -8,29 +8,9 @@ ghost use Rattle.replay.specs.Replaying.{RecordedReplayRight, ReplayRight, Repla
 
 use crate::asking::{Ask, RecordedAsk, Turn};
 use crate::kinds::Asked;
+use crate::lender::Lender;
 use archive::{Archive, Refused};
 use space::{Recorded, Space, Trial};
-
-// Runs the calls one after the other on an archive that has just been made, and writes down each answer.
-fn run_all<S: Space, A: Asked<S>>(
-    archive: &mut Archive<S>,
-    own: &mut [Trial<S::Point>],
-    strange: &mut [Trial<S::Point>],
-    list: &mut [u32],
-    block: &mut [u8],
-    turns: &mut [Turn<A>],
-)
-    requires own_len { length own.old ≡ (lending archive.old own.old []).rows }
-    requires begins { Begins (S.Space.meaning archive.old.space) (lending archive.old own.old []).rows (lending archive.old own.old []).count own.old }
-    ensures space { archive.new.space ≡ archive.old.space }
-    ensures strange { strange.new ≡ strange.old }
-    ensures asks { asks_in turns.new ≡ asks_in turns.old }
-    ensures right { ReplayedAs (S.Space.meaning archive.old.space) (A.Asked.reading archive.old.space) (A.Asked.leaves archive.old.space) (map (λ ask. A.Asked.call ask (length own.old) (length strange.old) (length list.old) (length block.old)) (asks_in turns.old)) (answers_in turns.new) (record { list = list.old; block = block.old }) (lending archive.new own.new []) (record { list = list.new; block = block.new }) }
-{
-    for turn in turns {
-        turn.answer = Some(turn.ask.run(archive, own, strange, list, block));
-    }
-}
 
 // A replay of either kind.
 fn play<S: Space, A: Asked<S>>(
@@ -48,7 +28,13 @@ fn play<S: Space, A: Asked<S>>(
     ensures asks { asks_in turns.new ≡ asks_in turns.old }
 {
     let mut archive = Archive::new(space, own)?;
-    run_all(&mut archive, own, strange, list, block, turns);
+    let mut lender = Lender {
+        own,
+        strange,
+        list,
+        block,
+    };
+    lender.call_all(&mut archive, turns);
     Ok(archive)
 }
 
