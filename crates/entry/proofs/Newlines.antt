@@ -1,6 +1,6 @@
 -- How the lines of a text are found one after the other.
-use Rattle.std.proofs.Common.{◌≡◌, ℕ, zero, suc, ◌+◌, ◌<◌, ◌≤◌, eqb, ltb, List, [], ◌∷◌, ◌++◌, length, get_or, take, drop, sym, refl, ap, ◌∙◌, ⊎_elim, arith}
-use Rattle.std.proofs.lemmas.List.{append-nil, append_assoc, length-append}
+use Rattle.std.proofs.Common.{◌≡◌, ℕ, zero, suc, ◌+◌, ◌-◌, ◌<◌, ◌≤◌, eqb, ltb, List, [], ◌∷◌, ◌++◌, length, get_or, take, drop, sym, refl, ap, ◌∙◌, ⊎_elim, arith}
+use Rattle.std.proofs.lemmas.List.{append-nil, append_assoc, length-append, take_rest}
 use Rattle.std.proofs.lemmas.Bool.{cases_eq, cond-true, cond-false, eq-eqb, ne_eqb, lt-ltb}
 use Rattle.entry.specs.Text.{lines_after, lines, first_line, after_line}
 
@@ -16,6 +16,10 @@ parted (b ∷ bs) (suc n) l before found =
     let is = ne_eqb b 10 (before 0 (omega arith)) in
     let next = parted bs n (omega arith) (λ k m. before (suc k) (omega arith)) (λ m. found (omega arith)) in
     (ap (λ r. b ∷ r) next.0 ∙ sym (cond-false (eqb b 10) _ _ is), next.1 ∙ sym (cond-false (eqb b 10) _ _ is))
+
+-- what follows the newline, in what is left from it on
+pub past_newline : (bs rest : List ℕ) (n : ℕ) → rest ≡ drop n bs → n ≤ length bs → ((k : ℕ) → k < n → get_or bs k 0 ≡ 10 → ⊥) → (n < length bs → get_or bs n 0 ≡ 10) → take (length rest - 1) (drop 1 rest) ≡ after_line bs
+past_newline bs rest n is l before found = take_rest rest 1 ∙ ap (drop 1) is ∙ (parted bs n l before found).1
 
 -- the part of a line that is read already goes on with the first line of what is left
 goes_on : (l bs : List ℕ) → 0 < length l + length bs → lines_after l bs ≡ (l ++ first_line bs) ∷ lines (after_line bs)

@@ -1,6 +1,8 @@
 // The fields of a line: the bytes between its spaces.
-ghost use Rattle.std.specs.Prelude.{◌≡◌, ℕ, ◌<◌, ◌≤◌, length, ◌≢◌, slice_index};
+ghost use Rattle.std.specs.Prelude.{◌≡◌};
 ghost use Rattle.entry.specs.Line.{without_return};
+
+use crate::before::len_before;
 
 // The line without a carriage return at its end, which text from some systems has.
 pub fn without_return(line: &[u8]) -> &[u8]
@@ -10,15 +12,6 @@ pub fn without_return(line: &[u8]) -> &[u8]
         [text @ .., b'\r'] => text,
         _ => line,
     }
-}
-
-// How many bytes there are before the first space.
-fn field_len(bytes: &[u8]) -> usize
-    ensures within { result ≤ length bytes.now }
-    ensures before { (k : ℕ) → k < result → slice_index bytes.now k ≢ 32 }
-    ensures found { result < length bytes.now → slice_index bytes.now result ≡ 32 }
-{
-    bytes.iter().take_while(|byte| **byte != b' ').count()
 }
 
 // The fields of what is left of a line.
@@ -41,7 +34,7 @@ impl<'a> Iterator for Fields<'a> {
     fn next(&mut self) -> Option<&'a [u8]> {
         let start = self.rest.iter().position(|byte| *byte != b' ')?;
         let (_, rest) = self.rest.split_at(start);
-        let (field, rest) = rest.split_at(field_len(rest));
+        let (field, rest) = rest.split_at(len_before(rest, b' '));
         self.rest = rest;
         Some(field)
     }

@@ -2,6 +2,7 @@
 // A line that says anything else is refused, with what is wrong about it.
 #![tactic(auto)]
 
+mod before;
 mod fields;
 mod numbers;
 mod outcome;

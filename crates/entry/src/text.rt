@@ -3,25 +3,18 @@ ghost use Rattle.std.specs.Prelude.{◌≡◌, ℕ, ◌<◌, ◌≤◌, [], ◌�
 ghost use Rattle.entry.specs.Text.{after_line, entries_of, first_line, lines};
 ghost use Rattle.entry.specs.Lines.{lines_left};
 
+use crate::before::len_before;
 use crate::outcome::{Entry, Malformed};
 use crate::reading::read_entry;
 use std::alloc::{AllocError, Global};
 
-// How many bytes there are before the first newline.
-fn line_len(text: &[u8]) -> usize
-    ensures within { result ≤ length text.now }
-    ensures before { (k : ℕ) → k < result → slice_index text.now k ≢ 10 }
-    ensures found { result < length text.now → slice_index text.now result ≡ 10 }
-{
-    text.iter().take_while(|byte| **byte != b'\n').count()
-}
-
 // The first line and what follows its newline; nothing follows where there is none.
+#[tactic(auto, using(crate::proofs::Newlines::parted, crate::proofs::Newlines::past_newline))]
 pub fn next_line(text: &[u8]) -> (&[u8], &[u8])
     ensures line { result.0.now ≡ first_line text.now }
     ensures rest { result.1.now ≡ after_line text.now }
 {
-    let (line, rest) = text.split_at(line_len(text));
+    let (line, rest) = text.split_at(len_before(text, b'\n'));
     match rest {
         [_, after @ ..] => (line, after),
         [] => (line, rest),
@@ -66,6 +59,7 @@ impl<'a> Iterator for TextLines<'a> {
 
     ghost remaining = { item_count lines_left };
 
+    // the lines of `next` of a block's records too: a trait for them, in a crate below both, would be longer
     fn next(&mut self) -> Option<&'a [u8]> {
         let (line, after) = self.split()?;
         *self = after;

@@ -14,10 +14,10 @@ returns-clause-steps c =
     let spaces : (k : ℕ) → k < c.in_ok-start.start → get_or c.args.self.now.rest.now k 0 ≡ 32 = search rules in
     let begun : get_or c.args.self.now.rest.now c.in_ok-start.start 0 ≡ 32 → ⊥ = search rules in
     let inside : c.in_ok-start.start < length c.args.self.now.rest.now = search rules in
-    let word = c.field_len.ensures in
+    let word = c.len_before.ensures in
     let split = c.split_at.ensures in
     let parts = c.split_at-2.ensures in
-    let here = first_and_rest c.args.self.now.rest.now c.split_at.result.1.now c.in_ok-start.start c.field_len.result inside spaces begun split.back word.within word.before word.found in
+    let here = first_and_rest c.args.self.now.rest.now c.split_at.result.1.now c.in_ok-start.start c.len_before.result inside spaces begun split.back word.within word.before word.found in
     let front = parts.front in
     let back = parts.back in
     cc
