@@ -4,7 +4,7 @@ use Rattle.std.specs.List.{AllByRecursion}
 use Rattle.std.specs.Result.{is_ok}
 use Rattle.std.proofs.ByRecursion.{All-drop}
 use Rattle.std.proofs.lemmas.Bool.{cond_both, cond-true}
-use Rattle.std.proofs.lemmas.List.{append-nil, append_assoc, drop_all, drop-drop, drop-map, flat_map_more, length-drop, length-map, length_push, map-append, take_all, take-map}
+use Rattle.std.proofs.lemmas.List.{append_assoc, drop-drop, drop-map, flat_map_more, length-drop, length-map, length_push, map-append, take-map}
 use Rattle.std.proofs.Math.ListN.{get_or-append}
 use Rattle.std.proofs.Math.Seq.{get_or-append_seam}
 use Rattle.word.proofs.Back.{four_back}
@@ -75,18 +75,13 @@ read_more items xs blocks b r e n =
       records = sym (flat_map_more records_read [] blocks b) ∙ (ap (λ ys. ys ++ records_read b) r.records ∙ ap (λ ys. items ++ ys) told);
     }
 
--- the records before a place are in blocks, of which the next has this number, and those that are left are shared out after them
-pub record Shared (rs : List Record) (place number : ℕ) (blocks : List (List ℕ)) : Type 0 where
+-- the records before a place are in blocks, and those that are left are shared out after them
+pub record Shared (rs : List Record) (place : ℕ) (blocks : List (List ℕ)) : Type 0 where
   pub within : place ≤ length rs
-  pub counted : number ≡ length blocks % 2 ^ 32
   pub left : blocks ++ blocks_from (length blocks) (shares (map seen (drop place rs))) ≡ blocks_of (map seen rs)
   pub read : ReadAs (map seen (take place rs)) blocks
 
--- before the first block
-pub none_shared : (rs : List Record) → Shared rs 0 0 []
-none_shared rs = record { within = omega arith; counted = refl; left = refl; read = record { accepted = λ k l. absurd (omega arith); numbered = λ k l. absurd (omega arith); records = refl } }
-
-module _ (rs : List Record) (place number : ℕ) (blocks : List (List ℕ)) (each : Alone (map seen rs)) (s : Shared rs place number blocks) (more : place < length rs) where
+module _ (rs : List Record) (place : ℕ) (blocks : List (List ℕ)) (each : Alone (map seen rs)) (s : Shared rs place blocks) (more : place < length rs) where
   -- the records that are left
   abbrev rest : List Item
   rest = map seen (drop place rs)
@@ -105,27 +100,18 @@ module _ (rs : List Record) (place number : ℕ) (blocks : List (List ℕ)) (eac
   after_run : (n : ℕ) → drop n rest ≡ map seen (drop (place + n) rs)
   after_run n = drop-map seen n (drop place rs) ∙ ap (map seen) (drop-drop n place rs)
 
-  pub shared_more : (b : List ℕ) (count next : ℕ) → b ≡ block_of 2 number (fitting_items 2 rest) → checked 2 b ≡ Ok (placed_from 8 (fitting_items 2 rest)) → count ≡ length (fitting_items 2 rest) → next ≡ (number + 1) % 2 ^ 32 → Shared rs (place + count) next (blocks ++ b ∷ [])
-  shared_more b count next is good many up =
+  pub shared_more : (b : List ℕ) (count : ℕ) → b ≡ block_of 2 (length blocks % 2 ^ 32) (fitting_items 2 rest) → checked 2 b ≡ Ok (placed_from 8 (fitting_items 2 rest)) → count ≡ length (fitting_items 2 rest) → Shared rs (place + count) (blocks ++ b ∷ [])
+  shared_more b count is good many =
       let run = fitting_items 2 rest in
       let long = length_push blocks b in
-      let counted = s.counted in
       let short = run_short 500 rest in
-      let number_here : b ≡ block_of 2 (length blocks % 2 ^ 32) run = is ∙ ap (λ n. block_of 2 n run) counted in
       let later : blocks_from (length blocks + 1) (shares (drop (length run) rest)) ≡ blocks_from (length (blocks ++ b ∷ [])) (shares (map seen (drop (place + count) rs))) = ap (λ k. blocks_from k (shares (drop (length run) rest))) (sym long) ∙ ap (λ xs. blocks_from (length (blocks ++ b ∷ [])) (shares xs)) (after_run (length run) ∙ ap (λ k. map seen (drop (place + k) rs)) (sym many)) in
-      let here : blocks_from (length blocks) (shares rest) ≡ b ∷ blocks_from (length (blocks ++ b ∷ [])) (shares (map seen (drop (place + count) rs))) = ap (blocks_from (length blocks)) (shares_more rest (omega (arith, rest_long)) rest_each) ∙ (ap (λ c. c ∷ blocks_from (length blocks + 1) (shares (drop (length run) rest))) (sym number_here) ∙ ap (λ cs. b ∷ cs) later) in
+      let here : blocks_from (length blocks) (shares rest) ≡ b ∷ blocks_from (length (blocks ++ b ∷ [])) (shares (map seen (drop (place + count) rs))) = ap (blocks_from (length blocks)) (shares_more rest (omega (arith, rest_long)) rest_each) ∙ (ap (λ c. c ∷ blocks_from (length blocks + 1) (shares (drop (length run) rest))) (sym is) ∙ ap (λ cs. b ∷ cs) later) in
       let front : take count rest ≡ run = ap (λ k. take k rest) many ∙ run_front 500 rest in
       let before : map seen (take place rs) ++ run ≡ map seen (take (place + count) rs) = ap (λ xs. map seen (take place rs) ++ xs) (sym (sym (take-map seen count (drop place rs)) ∙ front)) ∙ (sym (map-append seen (take place rs) (take count (drop place rs))) ∙ ap (map seen) (sym (take-add place count rs))) in
-      let small : number < 2 ^ 32 = omega arith in
+      let number = length blocks % 2 ^ 32 in
       record {
         within = omega (arith, rest_long);
-        counted = omega arith;
         left = append_assoc blocks (b ∷ []) (blocks_from (length (blocks ++ b ∷ [])) (shares (map seen (drop (place + count) rs)))) ∙ (ap (λ cs. blocks ++ cs) (sym here) ∙ s.left);
-        read = subst (λ xs. ReadAs xs (blocks ++ b ∷ [])) before (read_more (map seen (take place rs)) run blocks b s.read good (ap block_number is ∙ (says_number number run small ∙ counted)));
+        read = subst (λ xs. ReadAs xs (blocks ++ b ∷ [])) before (read_more (map seen (take place rs)) run blocks b s.read good (ap block_number is ∙ says_number number run (omega arith)));
       }
-
--- after the last block
-pub all_shared : (rs : List Record) (place number : ℕ) (blocks : List (List ℕ)) → length rs ≤ place → Shared rs place number blocks → (blocks ≡ blocks_of (map seen rs)) × ReadAs (map seen rs) blocks
-all_shared rs place number blocks past s =
-    let none : map seen (drop place rs) ≡ [] = ap (map seen) (drop_all place rs past) in
-    (sym (append-nil blocks) ∙ (ap (λ xs. blocks ++ blocks_from (length blocks) (shares xs)) (sym none) ∙ s.left), subst (λ xs. ReadAs (map seen xs) blocks) (take_all place rs past) s.read)

@@ -31,13 +31,13 @@ pub(crate) fn write_blocks(
     ensures read { IfOk result (λ v. ReadAs (map seen records.now) v.items) }
 {
     let mut blocks = Vec::new(heap);
-    let mut number = 0u32;
     // a place and no slice of what is left: a slice of borrowed records that a loop cuts gets no proof
     let mut place = 0;
     while place < records.len() {
+        // a block number has 32 bits
+        let number = (blocks.len() % (1 << 32)) as u32;
         let (block, count) = next_block(number, &records[place..]);
         blocks.push(block)?;
-        number = number.wrapping_add(1);
         place += count;
     }
     Ok(blocks)

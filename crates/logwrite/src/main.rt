@@ -27,9 +27,9 @@ fn run(rt: &HostRuntime) -> anyhow::Result<()> {
 
 // Each line that gives no record, with its number, from 1 on, and why.
 fn tell_malformed(rt: &HostRuntime, lines: &[Result<Line<'_>, Unsaid>]) -> anyhow::Result<()> {
-    for (i, line) in lines.iter().enumerate() {
+    for (number, line) in (1usize..).zip(lines) {
+        // no `filter_map`: it would take a line's number and its reason into a pair and out again
         if let Err(why) = line {
-            let number = i.saturating_add(1);
             eprintln!(rt; "line {number} malformed: {why}")?;
         }
     }

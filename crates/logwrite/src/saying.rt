@@ -5,7 +5,7 @@ use std::fmt;
 // The most bytes that a note may have.
 pub(crate) const LONGEST_NOTE: usize = 255;
 
-// What a line gives.
+// What a line gives. No `Record` of a block: that borrows the bytes of a point, which are held here.
 #[derive(Clone, Copy)]
 pub(crate) enum Line<'a> {
     // a trial: its tag, and the bytes of its point in front

@@ -115,10 +115,7 @@ fn long_notes(rt: HostRuntime) -> Result<(), Fail> {
 // 35 trials fill 490 of the 500 bytes; a note of eight bytes fits after them, and one of nine begins the next block.
 #[test]
 fn the_next_block(rt: HostRuntime) -> Result<(), Fail> {
-    let mut text = Vec::new(rt.alloc());
-    for _ in 0..35 {
-        text.extend_from_slice(b"1 2 3\n")?;
-    }
+    let mut text = b"1 2 3\n".repeat(rt.alloc(), 35)?;
     text.extend_from_slice(b"note 12345678")?;
     assert_eq!(rt; write_log(rt.alloc(), text.as_slice())?.blocks.len(), 1);
     text.push(b'9')?;
