@@ -1,5 +1,5 @@
 -- Offers of trials, all over the archive's own rows and a list as long.
-use Rattle.std.proofs.Common.{◌≡◌, ℕ, eqb, min, cond, List, [], ◌∷◌, map, None, refl, ap, ◌∙◌, subst, arith}
+use Rattle.std.proofs.Common.{◌≡◌, ℕ, eqb, min, cond, true, List, [], ◌∷◌, map, is_ok, Ok, Err, Result, IfOk, MatchResult, None, refl, ap, ◌∙◌, subst, arith}
 use Rattle.std.proofs.lemmas.Bool.{cond-true, eq-eqb}
 use Rattle.space.specs.Meaning.{Meaning}
 use Rattle.space.specs.declared.tagged.Trial.{Trial}
@@ -43,3 +43,8 @@ offered_all M n own other long trials asked turns before b held is need o s l a 
       promises = λ reads. (right₁.stands reads tt).promises;
       held = λ reads. h ∙ (right₁.stands reads tt).in_order;
     }
+
+-- what holds of a success holds of what is left once another error took the place of the first
+pub left_over : {A E : Type 0} (F : Type 0) (r : Result A E) (a : A) (P : A → Type 0) (Q : E → Type 0) → MatchResult r (λ x. ◌≡◌ {A = Result A F} (Ok a) (Ok x)) Q → true ≡ is_ok r → IfOk r P → P a
+left_over F (Ok x) a P Q same good right = subst P (let back : x ≡ a = cc in back) right
+left_over F (Err e) a P Q other good right = cc

@@ -21,8 +21,7 @@ pub(crate) fn print_refusals(
     space: &LoggerSpace,
     lines: &[Result<Entry, Malformed>],
 ) -> anyhow::Result<()> {
-    for (i, line) in lines.iter().enumerate() {
-        let number = i.saturating_add(1);
+    for (number, line) in (1usize..).zip(lines) {
         match line {
             Err(fault) => println!(rt; "line {number} malformed: {fault}")?,
             Ok(entry) if !space.admits(&trial_of(entry).point) => {
@@ -50,61 +49,60 @@ fn print_off_grid(rt: &HostRuntime, number: usize, entry: &Entry) -> anyhow::Res
     Ok(())
 }
 
-// Each trial on the grid, with its figures and its boxes, and whether another dominates it. Says how many stand: they are
-// counted as they are printed, since to ask of each again would go over all pairs again.
-pub(crate) fn print_trials(
-    rt: &HostRuntime,
-    space: &LoggerSpace,
-    trials: &[Trial<Point>],
-) -> anyhow::Result<usize> {
-    let mut standing = 0usize;
-    for (i, trial) in trials.iter().enumerate() {
-        if space.admits(&trial.point) {
-            let figures = Figures { space, trial };
-            if trial_stands(space, trials, i) {
-                println!(rt; "{figures}, not dominated")?;
-                standing = standing.saturating_add(1);
-            } else {
-                println!(rt; "{figures}, dominated")?;
+// All trials that were read, with the space that they lie in.
+#[derive(Clone, Copy)]
+pub(crate) struct Trials<'a> {
+    pub space: &'a LoggerSpace,
+    pub all: &'a [Trial<Point>],
+}
+
+impl Trials<'_> {
+    // Each trial on the grid, with its figures and its boxes, and whether another dominates it. Says how many stand: they are
+    // counted as they are printed, since to ask of each again would go over all pairs again.
+    pub(crate) fn print_each(&self, rt: &HostRuntime) -> anyhow::Result<usize> {
+        let Trials { space, all } = *self;
+        let mut standing = 0usize;
+        for (i, trial) in all.iter().enumerate() {
+            if space.admits(&trial.point) {
+                let figures = Figures { space, trial };
+                if trial_stands(space, all, i) {
+                    println!(rt; "{figures}, not dominated")?;
+                    standing = standing.saturating_add(1);
+                } else {
+                    println!(rt; "{figures}, dominated")?;
+                }
             }
         }
+        Ok(standing)
     }
-    Ok(standing)
-}
 
-// Each box that no other trial's box dominates, once, with the tags of the trials in it. Says how many stand: they are counted as
-// they are printed, for the same reason.
-pub(crate) fn print_boxes(
-    rt: &HostRuntime,
-    space: &LoggerSpace,
-    trials: &[Trial<Point>],
-) -> anyhow::Result<usize> {
-    let mut standing = 0usize;
-    for (i, trial) in trials.iter().enumerate() {
-        if opens_box(space, trials, i) {
-            let delay_box = space.box_number(0, &trial.point);
-            let life_box = space.box_number(1, &trial.point);
-            print!(rt; "box {delay_box} {life_box} stands with")?;
-            print_tags_in(rt, space, trials, &trial.point)?;
-            standing = standing.saturating_add(1);
+    // Each box that no other trial's box dominates, once, with the tags of the trials in it. Says how many stand: they are counted
+    // as they are printed, for the same reason.
+    pub(crate) fn print_boxes(&self, rt: &HostRuntime) -> anyhow::Result<usize> {
+        let Trials { space, all } = *self;
+        let mut standing = 0usize;
+        for (i, trial) in all.iter().enumerate() {
+            if opens_box(space, all, i) {
+                let delay_box = space.box_number(0, &trial.point);
+                let life_box = space.box_number(1, &trial.point);
+                print!(rt; "box {delay_box} {life_box} stands with")?;
+                self.print_tags_in(rt, &trial.point)?;
+                standing = standing.saturating_add(1);
+            }
         }
+        Ok(standing)
     }
-    Ok(standing)
-}
 
-// The tags of the trials on the grid that have the point's box.
-fn print_tags_in(
-    rt: &HostRuntime,
-    space: &LoggerSpace,
-    trials: &[Trial<Point>],
-    point: &Point,
-) -> anyhow::Result<()> {
-    for trial in trials.iter().filter(|trial| space.admits(&trial.point)
-        && same_box(space, &trial.point, point))
-    {
-        let tag = trial.tag;
-        print!(rt; " tag {tag}")?;
+    // The tags of the trials on the grid that have the point's box.
+    fn print_tags_in(&self, rt: &HostRuntime, point: &Point) -> anyhow::Result<()> {
+        let Trials { space, all } = *self;
+        for trial in all.iter().filter(|trial| space.admits(&trial.point)
+            && same_box(space, &trial.point, point))
+        {
+            let tag = trial.tag;
+            print!(rt; " tag {tag}")?;
+        }
+        println!(rt; "")?;
+        Ok(())
     }
-    println!(rt; "")?;
-    Ok(())
 }

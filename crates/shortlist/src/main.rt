@@ -8,14 +8,14 @@ mod figures;
 mod offers;
 mod verdicts;
 
-use account::{print_boxes, print_refusals, print_space, print_trials};
+use account::{Trials, print_refusals, print_space};
 use anyhow::anyhow;
 use entry::read_entries;
 use logger::{logger_space, trials_of};
 use offers::offer_all;
 use space::Space;
 use std::io::Read;
-use verdicts::{hold_what_stands, print_offers, print_rows};
+use verdicts::{print_offers, print_rows};
 
 fn main(rt: HostRuntime) -> anyhow::Result<()> {
     run(&rt)
@@ -30,8 +30,12 @@ fn run(rt: &HostRuntime) -> anyhow::Result<()> {
 
     print_space(rt, &space)?;
     print_refusals(rt, &space, lines.as_slice())?;
-    let not_dominated = print_trials(rt, &space, trials.as_slice())?;
-    let boxes = print_boxes(rt, &space, trials.as_slice())?;
+    let read_trials = Trials {
+        space: &space,
+        all: trials.as_slice(),
+    };
+    let not_dominated = read_trials.print_each(rt)?;
+    let boxes = read_trials.print_boxes(rt)?;
 
     let read = lines.len();
     let malformed = lines.iter().filter(|line| line.is_err()).count();
@@ -47,7 +51,7 @@ fn run(rt: &HostRuntime) -> anyhow::Result<()> {
     let offers = offer_all(rt.alloc(), trials.as_slice())?;
     print_offers(rt, offers.turns.as_slice())?;
     print_rows(rt, &space, offers.members.as_slice())?;
-    if !hold_what_stands(&space, trials.as_slice(), offers.members.as_slice(), boxes) {
+    if !read_trials.are_held(offers.members.as_slice(), boxes) {
         return Err(anyhow!("the boxes held are not those that stand"));
     }
     println!(rt; "the boxes held are those that stand")?;

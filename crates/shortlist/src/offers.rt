@@ -52,14 +52,12 @@ pub(crate) fn offer_all(heap: Global, trials: &[Trial<Point>]) -> anyhow::Result
     let mut rows = vec![in heap; empty; need]?;
     let mut list = vec![in heap; 0; need]?;
     let mut turns = offers_of(heap, trials, need)?;
-    match replay(space, &mut rows, &mut [], &mut list, &mut turns) {
-        Ok(archive) => {
-            rows.truncate(archive.count());
-            Ok(Offers {
-                turns,
-                members: rows,
-            })
-        }
-        Err(refused) => Err(anyhow!("no archive is made: denied {}", refused.denial.number())),
-    }
+    let archive = replay(space, &mut rows, &mut [], &mut list, &mut turns).map_err(
+        |refused| anyhow!("no archive is made: denied {}", refused.denial.number()),
+    )?;
+    rows.truncate(archive.count());
+    Ok(Offers {
+        turns,
+        members: rows,
+    })
 }

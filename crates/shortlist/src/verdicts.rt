@@ -1,4 +1,5 @@
 // What an archive made of the trials: the verdict on each, the rows at the end, and whether they hold the boxes that stand.
+use crate::account::Trials;
 use crate::figures::Figures;
 use history::{Answer, Offered, Verdict};
 use logger::{LoggerSpace, Point};
@@ -103,24 +104,21 @@ fn holds(space: &LoggerSpace, members: &[Trial<Point>], point: &Point) -> bool {
         .any(|member| same_box(space, &member.point, point))
 }
 
-// Whether the box of this point stands among the trials.
-fn stands(space: &LoggerSpace, trials: &[Trial<Point>], point: &Point) -> bool {
-    trials.iter().enumerate().any(|(i, trial)| box_stands(space, trials, i)
-        && same_box(space, &trial.point, point))
-}
+impl Trials<'_> {
+    // Whether the box of this point stands among the trials.
+    fn stands(&self, point: &Point) -> bool {
+        let Trials { space, all } = *self;
+        all.iter().enumerate().any(|(i, trial)| box_stands(space, all, i)
+            && same_box(space, &trial.point, point))
+    }
 
-// Whether the members hold exactly the boxes that stand, of which there are so many: each of these, no other, and none twice.
-pub(crate) fn hold_what_stands(
-    space: &LoggerSpace,
-    trials: &[Trial<Point>],
-    members: &[Trial<Point>],
-    boxes: usize,
-) -> bool {
-    boxes == members.len()
-        && trials.iter().enumerate().all(|(i, trial)| {
-            !opens_box(space, trials, i) || holds(space, members, &trial.point)
-        })
-        && members
-            .iter()
-            .all(|member| stands(space, trials, &member.point))
+    // Whether the members hold exactly the boxes that stand, of which there are so many: each of these, no other, and none twice.
+    pub(crate) fn are_held(&self, members: &[Trial<Point>], boxes: usize) -> bool {
+        let Trials { space, all } = *self;
+        boxes == members.len()
+            && all.iter().enumerate().all(|(i, trial)| {
+                !opens_box(space, all, i) || holds(space, members, &trial.point)
+            })
+            && members.iter().all(|member| self.stands(&member.point))
+    }
 }
