@@ -1,4 +1,6 @@
 // What is asked of an archive, and what it answers.
+ghost use Rattle.std.specs.Prelude.{◌≡◌, None};
+
 use history::Answer;
 use space::Trial;
 
@@ -40,4 +42,13 @@ pub enum RecordedAsk<'a, P> {
 pub struct Turn<A> {
     pub ask: A,
     pub answer: Option<Answer>,
+}
+
+impl<A> Turn<A> {
+    // A call that is not answered yet.
+    pub fn new(ask: A) -> Turn<A>
+        ensures { result ≡ record { ask = ask; answer = None } }
+    {
+        Turn { ask, answer: None }
+    }
 }
