@@ -28,13 +28,12 @@ fn offers_of(
 {
     trials
         .iter()
-        .map(|trial| Turn {
-            ask: Ask::Offer {
+        .map(|trial| {
+            Turn::new(Ask::Offer {
                 rows,
                 room: rows,
                 trial: *trial,
-            },
-            answer: None,
+            })
         })
         .collect(heap)
 }
