@@ -43,10 +43,7 @@ fn calls_over_a_triangle(rt: HostRuntime) -> Result<(), Fail> {
     assert_eq!(rt; row_need(&Triangle), 9);
     let mut rows = [share(0, 0, 0); 2];
     let mut list = [77; 2];
-    let Ok(mut archive) = Archive::new(Triangle, &rows) else {
-        assert!(rt; false);
-        return Ok(());
-    };
+    let mut archive = Archive::new(Triangle, &rows).ok().ok_or("rows")?;
     for (trial, fate) in trials().iter().zip(fates().iter()) {
         assert_eq!(rt; archive.offer(*trial, &mut rows, &mut list), *fate);
     }
@@ -73,13 +70,8 @@ fn calls_over_a_triangle(rt: HostRuntime) -> Result<(), Fail> {
     Ok(())
 }
 
-// A call with no answer yet.
-fn turn(ask: Ask<Share>) -> Turn<Ask<Share>> {
-    Turn { ask, answer: None }
-}
-
 fn offer(trial: Trial<Share>) -> Turn<Ask<Share>> {
-    turn(Ask::Offer {
+    Turn::new(Ask::Offer {
         rows: 2,
         room: 2,
         trial,
@@ -99,14 +91,13 @@ fn a_replay_over_a_triangle(rt: HostRuntime) -> Result<(), Fail> {
         offer(trials[3]),
         offer(trials[4]),
         offer(trials[5]),
-        turn(Ask::Audit { rows: 1 }),
-        turn(Ask::Audit { rows: 2 }),
-        turn(Ask::List { rows: 2, room: 2 }),
+        Turn::new(Ask::Audit { rows: 1 }),
+        Turn::new(Ask::Audit { rows: 2 }),
+        Turn::new(Ask::List { rows: 2, room: 2 }),
     ];
-    let Ok(_) = replay(Triangle, &mut own, &mut strange, &mut list, &mut turns) else {
-        assert!(rt; false);
-        return Ok(());
-    };
+    let _ = replay(Triangle, &mut own, &mut strange, &mut list, &mut turns)
+        .ok()
+        .ok_or("rows")?;
     for (turn, fate) in turns.iter().zip(fates().iter()) {
         let told = fate.map_or_else(Answer::Denied, Answer::Offered);
         assert_eq!(rt; turn.answer, Some(told));

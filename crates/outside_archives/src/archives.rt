@@ -1,26 +1,21 @@
 // An archive's own calls: the worked figures, and what is denied.
-use crate::squares::{at, square};
+use crate::squares::square;
 use archive::{Archive, row_need};
 use history::{Denial, Offered, Verdict};
+use outside_parts::at;
 use std::test::Fail;
 
-// The answer to an offered trial that is judged.
+// The answer to an offered trial that is judged. Not by the one of `outside_parts`, which is what a replay writes down.
 fn judged(verdict: Verdict, displaced: usize) -> Result<Offered, Denial> {
     Ok(Offered { verdict, displaced })
 }
 
 #[test]
 fn one_trial_for_two_members(rt: HostRuntime) -> Result<(), Fail> {
-    let Ok(space) = square(9, 1) else {
-        assert!(rt; false);
-        return Ok(());
-    };
+    let space = square(9, 1).ok_or("a space")?;
     let mut rows = [at(0, 0, 0); 5];
     let mut list = [77; 5];
-    let Ok(mut archive) = Archive::new(space, &rows) else {
-        assert!(rt; false);
-        return Ok(());
-    };
+    let mut archive = Archive::new(space, &rows).ok().ok_or("rows")?;
     for trial in [at(1, 1, 9), at(2, 3, 3), at(3, 5, 1), at(4, 9, 0)] {
         assert_eq!(rt;
             archive.offer(trial, &mut rows, &mut list),
@@ -41,16 +36,10 @@ fn one_trial_for_two_members(rt: HostRuntime) -> Result<(), Fail> {
 
 #[test]
 fn a_full_archive(rt: HostRuntime) -> Result<(), Fail> {
-    let Ok(space) = square(9, 1) else {
-        assert!(rt; false);
-        return Ok(());
-    };
+    let space = square(9, 1).ok_or("a space")?;
     let mut rows = [at(0, 0, 0); 2];
     let mut list = [77; 2];
-    let Ok(mut archive) = Archive::new(space, &rows) else {
-        assert!(rt; false);
-        return Ok(());
-    };
+    let mut archive = Archive::new(space, &rows).ok().ok_or("rows")?;
     assert_eq!(rt;
         archive.offer(at(1, 1, 9), &mut rows, &mut list),
         judged(Verdict::Entered, 0)
@@ -76,16 +65,10 @@ fn a_full_archive(rt: HostRuntime) -> Result<(), Fail> {
 
 #[test]
 fn boxes_before_points(rt: HostRuntime) -> Result<(), Fail> {
-    let Ok(space) = square(99, 10) else {
-        assert!(rt; false);
-        return Ok(());
-    };
+    let space = square(99, 10).ok_or("a space")?;
     let mut rows = [at(0, 0, 0); 3];
     let mut list = [77; 3];
-    let Ok(mut archive) = Archive::new(space, &rows) else {
-        assert!(rt; false);
-        return Ok(());
-    };
+    let mut archive = Archive::new(space, &rows).ok().ok_or("rows")?;
     assert_eq!(rt;
         archive.offer(at(1, 19, 19), &mut rows, &mut list),
         judged(Verdict::Entered, 0)
@@ -108,10 +91,7 @@ fn boxes_before_points(rt: HostRuntime) -> Result<(), Fail> {
 
 #[test]
 fn denials(rt: HostRuntime) -> Result<(), Fail> {
-    let Ok(space) = square(9, 1) else {
-        assert!(rt; false);
-        return Ok(());
-    };
+    let space = square(9, 1).ok_or("a space")?;
     assert_eq!(rt; row_need(&space), 10);
     match Archive::new(space, &[]) {
         Ok(_) => assert!(rt; false),
@@ -122,10 +102,7 @@ fn denials(rt: HostRuntime) -> Result<(), Fail> {
         Err(refused) => assert_eq!(rt; refused.denial, Denial::Overlong),
     }
     let mut rows = [at(0, 0, 0); 2];
-    let Ok(mut archive) = Archive::new(space, &rows) else {
-        assert!(rt; false);
-        return Ok(());
-    };
+    let mut archive = Archive::new(space, &rows).ok().ok_or("rows")?;
     let mut list = [77; 2];
     assert_eq!(rt;
         archive.offer(at(1, 1, 9), &mut rows[..1], &mut []),
@@ -151,16 +128,10 @@ fn denials(rt: HostRuntime) -> Result<(), Fail> {
 
 #[test]
 fn rows_that_came_from_no_history(rt: HostRuntime) -> Result<(), Fail> {
-    let Ok(space) = square(9, 1) else {
-        assert!(rt; false);
-        return Ok(());
-    };
+    let space = square(9, 1).ok_or("a space")?;
     let mut rows = [at(0, 0, 0); 4];
     let mut list = [77; 4];
-    let Ok(mut archive) = Archive::new(space, &rows) else {
-        assert!(rt; false);
-        return Ok(());
-    };
+    let mut archive = Archive::new(space, &rows).ok().ok_or("rows")?;
     for trial in [at(1, 1, 9), at(2, 5, 5), at(3, 9, 1)] {
         assert_eq!(rt;
             archive.offer(trial, &mut rows, &mut list),

@@ -1,33 +1,21 @@
 // A list of calls, denied ones among them, and every answer of it.
-use crate::squares::{at, square};
-use history::{Answer, Denial, Offered, Verdict};
+use crate::squares::square;
+use history::{Answer, Denial, Verdict};
+use outside_parts::{at, judged};
 use replay::{Ask, Turn, replay};
 use std::test::Fail;
 
-// A call with no answer yet.
-fn turn(ask: Ask<[i32; 6]>) -> Turn<Ask<[i32; 6]>> {
-    Turn { ask, answer: None }
-}
-
 fn offer(rows: usize, room: usize, tag: u32, x: i32, y: i32) -> Turn<Ask<[i32; 6]>> {
-    turn(Ask::Offer {
+    Turn::new(Ask::Offer {
         rows,
         room,
         trial: at(tag, x, y),
     })
 }
 
-// The answer to an offered trial that is judged.
-fn judged(verdict: Verdict, displaced: usize) -> Answer {
-    Answer::Offered(Offered { verdict, displaced })
-}
-
 #[test]
 fn calls_and_answers(rt: HostRuntime) -> Result<(), Fail> {
-    let Ok(space) = square(9, 1) else {
-        assert!(rt; false);
-        return Ok(());
-    };
+    let space = square(9, 1).ok_or("a space")?;
     let mut own = [at(0, 0, 0); 2];
     let mut strange = [at(9, 9, 9); 3];
     let mut list = [77; 3];
@@ -38,15 +26,14 @@ fn calls_and_answers(rt: HostRuntime) -> Result<(), Fail> {
         offer(2, 2, 2, 9, 0),
         offer(2, 3, 3, 5, 5),
         offer(2, 3, 4, 9, 1),
-        turn(Ask::Audit { rows: 2 }),
-        turn(Ask::Audit { rows: 1 }),
-        turn(Ask::List { rows: 2, room: 1 }),
-        turn(Ask::List { rows: 2, room: 3 }),
+        Turn::new(Ask::Audit { rows: 2 }),
+        Turn::new(Ask::Audit { rows: 1 }),
+        Turn::new(Ask::List { rows: 2, room: 1 }),
+        Turn::new(Ask::List { rows: 2, room: 3 }),
     ];
-    let Ok(archive) = replay(space, &mut own, &mut strange, &mut list, &mut turns) else {
-        assert!(rt; false);
-        return Ok(());
-    };
+    let archive = replay(space, &mut own, &mut strange, &mut list, &mut turns)
+        .ok()
+        .ok_or("rows")?;
     let told = [
         judged(Verdict::Entered, 0),
         Answer::Denied(Denial::StrangeRows),
@@ -70,11 +57,8 @@ fn calls_and_answers(rt: HostRuntime) -> Result<(), Fail> {
 
 #[test]
 fn a_replay_over_no_rows(rt: HostRuntime) -> Result<(), Fail> {
-    let Ok(space) = square(9, 1) else {
-        assert!(rt; false);
-        return Ok(());
-    };
-    let mut turns = [turn(Ask::Audit { rows: 0 })];
+    let space = square(9, 1).ok_or("a space")?;
+    let mut turns = [Turn::new(Ask::Audit { rows: 0 })];
     match replay(space, &mut [], &mut [], &mut [], &mut turns) {
         Err(refused) => assert_eq!(rt; refused.denial, Denial::NoRows),
         Ok(_) => assert!(rt; false),

@@ -1,5 +1,7 @@
 // Blocks of a log: each fault at each of its places, and what is written reads back.
+use crate::records::{note_next, trial_next};
 use log_block::{Record, Report, TrialBytes};
+use outside_parts::report;
 use std::test::Fail;
 
 // Puts these bytes at these places.
@@ -25,44 +27,37 @@ fn told(bytes: &[u8]) -> Option<Report> {
     log_block::check(bytes, 2).err().map(|fault| fault.report())
 }
 
-fn fault(number: u8, layer: u8, place: usize) -> Option<Report> {
-    Some(Report {
-        number,
-        layer,
-        place,
-    })
-}
-
 #[test]
 fn blocks_as_a_whole(rt: HostRuntime) {
     let empty = block(0, &[]);
     assert!(rt; empty[508..512] == [0, 3, 5, 240]);
     assert_eq!(rt; told(&empty), None);
-    assert_eq!(rt; told(&empty[0..511]), fault(9, 1, 0));
-    assert_eq!(rt; told(&[0; 513]), fault(9, 1, 0));
-    assert_eq!(rt; told(&[]), fault(9, 1, 0));
-    assert_eq!(rt; told(&[0; 512]), fault(11, 1, 0));
-    assert_eq!(rt; told(&block(0, &[(0, 2)])), fault(11, 1, 0));
-    assert_eq!(rt; told(&block(0, &[(3, 1)])), fault(11, 1, 3));
-    assert_eq!(rt; told(&block(0, &[(0, 0), (3, 1)])), fault(11, 1, 0));
-    assert_eq!(rt; told(&block(0, &[(2, 3)])), fault(12, 1, 2));
-    assert_eq!(rt; told(&block(0, &[(2, 3), (3, 1)])), fault(11, 1, 3));
+    assert_eq!(rt; told(&empty[0..511]), report(9, 1, 0));
+    assert_eq!(rt; told(&[0; 513]), report(9, 1, 0));
+    assert_eq!(rt; told(&[]), report(9, 1, 0));
+    assert_eq!(rt; told(&[0; 512]), report(11, 1, 0));
+    assert_eq!(rt; told(&block(0, &[(0, 2)])), report(11, 1, 0));
+    assert_eq!(rt; told(&block(0, &[(3, 1)])), report(11, 1, 3));
+    assert_eq!(rt; told(&block(0, &[(0, 0), (3, 1)])), report(11, 1, 0));
+    assert_eq!(rt; told(&block(0, &[(2, 3)])), report(12, 1, 2));
+    assert_eq!(rt; told(&block(0, &[(2, 3), (3, 1)])), report(11, 1, 3));
     assert_eq!(rt; told(&block(0, &[(4, 255), (7, 1)])), None);
 }
 
 #[test]
 fn torn_blocks(rt: HostRuntime) {
+    // by place: each byte of the sum is altered alone
     for place in 508..512 {
         for by in [1, 255] {
             let mut torn = block(0, &[]);
             torn[place] = torn[place].wrapping_add(by);
-            assert_eq!(rt; told(&torn), fault(10, 1, 508));
+            assert_eq!(rt; told(&torn), report(10, 1, 508));
         }
     }
     for place in [0, 3, 8, 507] {
         let mut torn = block(0, &[]);
         torn[place] = torn[place].wrapping_add(1);
-        assert_eq!(rt; told(&torn), fault(10, 1, 508));
+        assert_eq!(rt; told(&torn), report(10, 1, 508));
     }
 }
 
@@ -70,42 +65,42 @@ fn torn_blocks(rt: HostRuntime) {
 fn records_and_their_ends(rt: HostRuntime) {
     assert_eq!(rt; told(&block(1, &[(8, 2)])), None);
     assert_eq!(rt; told(&block(1, &[(8, 2), (9, 255)])), None);
-    assert_eq!(rt; told(&block(1, &[(8, 0)])), fault(13, 2, 8));
-    assert_eq!(rt; told(&block(1, &[(8, 3)])), fault(13, 2, 8));
+    assert_eq!(rt; told(&block(1, &[(8, 0)])), report(13, 2, 8));
+    assert_eq!(rt; told(&block(1, &[(8, 3)])), report(13, 2, 8));
     assert_eq!(rt; told(&block(1, &[(8, 1), (9, 12)])), None);
-    assert_eq!(rt; told(&block(1, &[(8, 1), (9, 11)])), fault(13, 2, 8));
-    assert_eq!(rt; told(&block(1, &[(8, 1), (9, 13)])), fault(13, 2, 8));
-    assert_eq!(rt; told(&block(1, &[(8, 1), (9, 8)])), fault(13, 2, 8));
+    assert_eq!(rt; told(&block(1, &[(8, 1), (9, 11)])), report(13, 2, 8));
+    assert_eq!(rt; told(&block(1, &[(8, 1), (9, 13)])), report(13, 2, 8));
+    assert_eq!(rt; told(&block(1, &[(8, 1), (9, 8)])), report(13, 2, 8));
     assert_eq!(rt;
         told(&block(2, &[(8, 2), (9, 255), (265, 2), (266, 241)])),
         None
     );
     assert_eq!(rt;
         told(&block(2, &[(8, 2), (9, 255), (265, 2), (266, 242)])),
-        fault(13, 2, 265)
+        report(13, 2, 265)
     );
     assert_eq!(rt;
         told(&block(3, &[(8, 2), (9, 255), (265, 2), (266, 240), (507, 2)])),
-        fault(13, 2, 507)
+        report(13, 2, 507)
     );
     assert_eq!(rt;
         told(&block(3, &[(8, 2), (9, 255), (265, 2), (266, 241)])),
-        fault(13, 2, 508)
+        report(13, 2, 508)
     );
 }
 
 #[test]
 fn tails_and_counts(rt: HostRuntime) {
-    assert_eq!(rt; told(&block(0, &[(8, 1)])), fault(13, 2, 8));
-    assert_eq!(rt; told(&block(0, &[(507, 1)])), fault(13, 2, 507));
-    assert_eq!(rt; told(&block(0, &[(9, 7), (507, 1)])), fault(13, 2, 9));
+    assert_eq!(rt; told(&block(0, &[(8, 1)])), report(13, 2, 8));
+    assert_eq!(rt; told(&block(0, &[(507, 1)])), report(13, 2, 507));
+    assert_eq!(rt; told(&block(0, &[(9, 7), (507, 1)])), report(13, 2, 9));
     assert_eq!(rt;
         told(&block(1, &[(8, 1), (9, 12), (22, 9)])),
-        fault(13, 2, 22)
+        report(13, 2, 22)
     );
-    assert_eq!(rt; told(&block(2, &[(8, 1), (9, 12)])), fault(13, 2, 22));
-    assert_eq!(rt; told(&block(0, &[(8, 1), (9, 12)])), fault(13, 2, 8));
-    assert_eq!(rt; told(&block(255, &[])), fault(13, 2, 8));
+    assert_eq!(rt; told(&block(2, &[(8, 1), (9, 12)])), report(13, 2, 22));
+    assert_eq!(rt; told(&block(0, &[(8, 1), (9, 12)])), report(13, 2, 8));
+    assert_eq!(rt; told(&block(255, &[])), report(13, 2, 8));
 }
 
 #[test]
@@ -124,48 +119,12 @@ fn records_as_parts(rt: HostRuntime) -> Result<(), Fail> {
             (28, 5),
         ],
     );
-    let Ok(mut records) = log_block::check(&block, 2) else {
-        assert!(rt; false);
-        return Ok(());
-    };
-    let Some(first) = records.next() else {
-        assert!(rt; false);
-        return Ok(());
-    };
-    assert_eq!(rt; first.place, 8);
-    let Record::Note(text) = first.record else {
-        assert!(rt; false);
-        return Ok(());
-    };
-    assert_eq!(rt; text.len(), 0);
-    let Some(second) = records.next() else {
-        assert!(rt; false);
-        return Ok(());
-    };
-    assert_eq!(rt; second.place, 10);
-    let Record::Trial { tag, point } = second.record else {
-        assert!(rt; false);
-        return Ok(());
-    };
-    assert_eq!(rt; tag, 16777225);
-    assert!(rt; point == [0, 0, 0, 7, 0, 0, 0, 0].as_slice());
-    let Some(third) = records.next() else {
-        assert!(rt; false);
-        return Ok(());
-    };
-    assert_eq!(rt; third.place, 24);
-    let Record::Note(text) = third.record else {
-        assert!(rt; false);
-        return Ok(());
-    };
-    assert!(rt; text == [0, 0, 5].as_slice());
-    match records.next() {
-        Some(_) => {
-            assert!(rt; false);
-            Ok(())
-        },
-        None => Ok(()),
-    }
+    let mut records = log_block::check(&block, 2).ok().ok_or("a block")?;
+    note_next(&rt, &mut records, 8, &[]);
+    trial_next(&rt, &mut records, 10, 16777225, &[0, 0, 0, 7, 0, 0, 0, 0]);
+    note_next(&rt, &mut records, 24, &[0, 0, 5]);
+    assert!(rt; records.next().is_none());
+    Ok(())
 }
 
 // A trial with this tag, whose point's bytes are all this one.
@@ -190,40 +149,26 @@ fn full_blocks(rt: HostRuntime) -> Result<(), Fail> {
             .ok(),
             Some(room)
         );
-        let Ok(mut records) = log_block::check(&block, objectives) else {
-            assert!(rt; false);
-            return Ok(());
-        };
-        for found in 0..60 {
-            let Some(placed) = records.next() else {
-                assert_eq!(rt; found, room);
-                break;
-            };
-            assert!(rt; found < room);
-            let Record::Trial { tag, point } = placed.record else {
+        let mut records = log_block::check(&block, objectives).ok().ok_or("a block")?;
+        for _ in 0..room {
+            let Record::Trial { tag, point } = records.next().ok_or("a record")?.record else {
                 assert!(rt; false);
                 return Ok(());
             };
             assert_eq!(rt; tag, 4294967294);
             assert_eq!(rt; point.len() / 4, usize::from(objectives));
         }
+        assert!(rt; records.next().is_none());
     }
     Ok(())
 }
 
 #[test]
-fn blocks_of_another_length_stay(rt: HostRuntime) -> Result<(), Fail> {
+fn blocks_of_another_length_stay(rt: HostRuntime) {
     let mut short = [7; 511];
-    let Err(refused) = log_block::write(&mut short, 2, 1, &[trial(1, 1)]) else {
-        assert!(rt; false);
-        return Ok(());
-    };
-    assert_eq!(rt; Some(refused.report()), fault(9, 1, 0));
-    let Err(refused) = log_block::seal(&mut short) else {
-        assert!(rt; false);
-        return Ok(());
-    };
-    assert_eq!(rt; Some(refused.report()), fault(9, 1, 0));
+    let refused = log_block::write(&mut short, 2, 1, &[trial(1, 1)]).err();
+    assert_eq!(rt; refused.map(|fault| fault.report()), report(9, 1, 0));
+    let refused = log_block::seal(&mut short).err();
+    assert_eq!(rt; refused.map(|fault| fault.report()), report(9, 1, 0));
     assert!(rt; short == [7; 511]);
-    Ok(())
 }

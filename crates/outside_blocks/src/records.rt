@@ -1,6 +1,7 @@
 // Blocks of trials and notes, written and read back: what fits, what does not, and what no block may hold.
 use log_block::{BlockFault, Record, Records};
 use std::process::Abort;
+use std::test::Fail;
 
 // The record of a trial of two objectives.
 fn trial(tag: u32, point: &[u8; 8]) -> Record<'_> {
@@ -11,7 +12,7 @@ fn trial(tag: u32, point: &[u8; 8]) -> Record<'_> {
 }
 
 // The next record is to be this note, at this place.
-fn note_next(rt: &impl Abort, records: &mut Records<'_>, place: usize, text: &[u8]) {
+pub(crate) fn note_next(rt: &impl Abort, records: &mut Records<'_>, place: usize, text: &[u8]) {
     let Some(found) = records.next() else {
         assert!(rt; false);
         return;
@@ -24,7 +25,13 @@ fn note_next(rt: &impl Abort, records: &mut Records<'_>, place: usize, text: &[u
 }
 
 // The next record is to be this trial, at this place.
-fn trial_next(rt: &impl Abort, records: &mut Records<'_>, place: usize, tag: u32, point: &[u8; 8]) {
+pub(crate) fn trial_next(
+    rt: &impl Abort,
+    records: &mut Records<'_>,
+    place: usize,
+    tag: u32,
+    point: &[u8; 8],
+) {
     let Some(found) = records.next() else {
         assert!(rt; false);
         return;
@@ -48,7 +55,7 @@ fn taken(objectives: u8, records: &[Record<'_>]) -> Option<usize> {
 }
 
 #[test]
-fn trials_and_notes_read_back(rt: HostRuntime) {
+fn trials_and_notes_read_back(rt: HostRuntime) -> Result<(), Fail> {
     let mut block = [255; 512];
     let long = [200; 255];
     let records = [
@@ -60,10 +67,7 @@ fn trials_and_notes_read_back(rt: HostRuntime) {
     let count = log_block::write_records(&mut block, 2, 16909060, &records);
     assert_eq!(rt; count, Ok(4));
     assert!(rt; block[0..8] == [1, 4, 2, 0, 1, 2, 3, 4]);
-    let Ok(mut found) = log_block::check(&block, 2) else {
-        assert!(rt; false);
-        return;
-    };
+    let mut found = log_block::check(&block, 2).ok().ok_or("a block")?;
     note_next(&rt, &mut found, 8, &[]);
     trial_next(
         &rt,
@@ -75,6 +79,7 @@ fn trials_and_notes_read_back(rt: HostRuntime) {
     note_next(&rt, &mut found, 24, &long);
     trial_next(&rt, &mut found, 281, 0, &[255; 8]);
     assert!(rt; found.next().is_none());
+    Ok(())
 }
 
 #[test]

@@ -1,9 +1,10 @@
 // Feeds that are not refused: what each tells, and what the rows hold then.
 use crate::blocks::{block_of, changed, four, trial};
-use crate::squares::{at, holding, same_rows, square, tags};
+use crate::squares::{holding, same_rows, square, tags};
 use archive::Archive;
 use history::{DeniedTrial, Fed, FeedFault};
 use log_block::Report;
+use outside_parts::{at, report};
 use std::test::Fail;
 
 // The answer to a feed that is not refused.
@@ -49,14 +50,6 @@ fn four_trials(rt: HostRuntime) -> Result<(), Fail> {
 // The first denied trial of a feed, by number, layer and place.
 fn first_of(answer: Result<Fed, FeedFault>) -> Option<Report> {
     answer.ok().map(|fed| fed.first_report())
-}
-
-fn report(number: u8, layer: u8, place: usize) -> Option<Report> {
-    Some(Report {
-        number,
-        layer,
-        place,
-    })
 }
 
 #[test]

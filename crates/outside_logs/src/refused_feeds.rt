@@ -1,9 +1,10 @@
 // Feeds that are refused: each fault with its number, layer and place, and nothing is altered.
 use crate::blocks::{block_of, changed, four, torn, trial};
-use crate::squares::{at, holding, same_rows};
+use crate::squares::{holding, same_rows};
 use archive::Archive;
 use history::FeedFault;
 use log_block::{BlockFault, RecordFault, Report};
+use outside_parts::at;
 use space::Trial;
 use std::process::Abort;
 use std::test::Fail;

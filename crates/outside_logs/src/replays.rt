@@ -1,37 +1,33 @@
 // A list of calls of all five kinds, denied ones among them, and every answer of it.
 use crate::blocks::{block_of, four, torn, trial};
-use crate::squares::{at, same_rows, square, tags};
-use history::{Answer, Denial, DeniedTrial, Fed, FeedFault, Offered, Verdict};
+use crate::squares::{same_rows, square, tags};
+use history::{Answer, Denial, DeniedTrial, Fed, FeedFault, Verdict};
 use log_block::BlockFault;
+use outside_parts::{at, judged};
 use replay::{Ask, RecordedAsk, Turn, replay_recorded};
 use space::Trial;
 use std::test::Fail;
 
 type Call<'a> = Turn<RecordedAsk<'a, [i32; 6]>>;
 
-// A call with no answer yet.
-fn call<'a>(ask: RecordedAsk<'a, [i32; 6]>) -> Call<'a> {
-    Turn { ask, answer: None }
-}
-
 fn offer<'a>(rows: usize, room: usize, trial: Trial<[i32; 6]>) -> Call<'a> {
-    call(RecordedAsk::Plain(Ask::Offer { rows, room, trial }))
+    Turn::new(RecordedAsk::Plain(Ask::Offer { rows, room, trial }))
 }
 
 fn audit<'a>(rows: usize) -> Call<'a> {
-    call(RecordedAsk::Plain(Ask::Audit { rows }))
+    Turn::new(RecordedAsk::Plain(Ask::Audit { rows }))
 }
 
 fn list<'a>(rows: usize, room: usize) -> Call<'a> {
-    call(RecordedAsk::Plain(Ask::List { rows, room }))
+    Turn::new(RecordedAsk::Plain(Ask::List { rows, room }))
 }
 
 fn feed<'a>(rows: usize, block: &'a [u8]) -> Call<'a> {
-    call(RecordedAsk::Feed { rows, block })
+    Turn::new(RecordedAsk::Feed { rows, block })
 }
 
 fn save<'a>(rows: usize, number: usize, size: usize) -> Call<'a> {
-    call(RecordedAsk::Save { rows, number, size })
+    Turn::new(RecordedAsk::Save { rows, number, size })
 }
 
 // Calls over two rows of its own.
@@ -58,11 +54,6 @@ fn calls<'a>(block: &'a [u8], torn: &'a [u8]) -> [Call<'a>; 20] {
         save(2, 1, 512),
         save(2, 0, 512),
     ]
-}
-
-// The answer to an offered trial that is judged.
-fn judged(verdict: Verdict, displaced: usize) -> Answer {
-    Answer::Offered(Offered { verdict, displaced })
 }
 
 // Their answers.

@@ -1,9 +1,10 @@
 // Restores: what is refused, and what comes back.
 use crate::blocks::{block_of, changed, four, torn};
-use crate::squares::{at, filled, same_rows, square};
+use crate::squares::{filled, same_rows, square};
 use archive::{Archive, RestoreFault, Restored, restore};
 use history::{Denial, DeniedTrial, Fed};
 use log_block::{BlockFault, Fault, RecordFault};
+use outside_parts::at;
 use space::Trial;
 use std::test::Fail;
 use step::StepSpace;

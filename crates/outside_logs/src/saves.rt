@@ -1,6 +1,7 @@
 // Saves: what is denied, how many blocks there are, and their bytes.
-use crate::squares::{at, filled};
+use crate::squares::filled;
 use history::Denial;
+use outside_parts::at;
 use std::test::Fail;
 
 #[test]

@@ -1,5 +1,6 @@
-// Spaces of a few objectives for the tests, trials in them, and archives of them.
+// Spaces of a few objectives for the tests, and archives of them.
 use archive::Archive;
+use outside_parts::at;
 use space::Trial;
 use step::{Direction, Scale, StepSpace};
 
@@ -12,13 +13,6 @@ pub(crate) fn square(objectives: usize, high: i32) -> Option<StepSpace> {
         step: 1,
     };
     StepSpace::new(&[side; 6][..objectives.min(6)]).ok()
-}
-
-pub(crate) fn at(tag: u32, x: i32, y: i32) -> Trial<[i32; 6]> {
-    Trial {
-        point: [x, y, 0, 0, 0, 0],
-        tag,
-    }
 }
 
 // An archive of two objectives from 0 to 9 over these rows, with one member.
