@@ -150,6 +150,7 @@ fn full_blocks(rt: HostRuntime) -> Result<(), Fail> {
             Some(room)
         );
         let mut records = log_block::check(&block, objectives).ok().ok_or("a block")?;
+        // no `count`: it asks for a proof that the records are few
         for _ in 0..room {
             let Record::Trial { tag, point } = records.next().ok_or("a record")?.record else {
                 assert!(rt; false);

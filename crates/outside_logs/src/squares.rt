@@ -32,6 +32,7 @@ pub(crate) fn filled(
     rows: &mut [Trial<[i32; 6]>],
 ) -> Option<Archive<StepSpace>> {
     let mut archive = Archive::new(square(objectives, 255)?, rows).ok()?;
+    // by number: each member's tag and figures are made of it
     for i in 0..members {
         let trial = at(1000 + u32::from(i), i32::from(i), 255 - i32::from(i));
         archive.offer(trial, rows, &mut [0; 64]).ok()?;

@@ -12,7 +12,7 @@ use crate::lender::Lender;
 use archive::{Archive, Refused};
 use space::{Recorded, Space, Trial};
 
-// A replay of either kind.
+// A replay of either kind. What is lent comes one by one, as to the public calls: their contracts speak of each.
 fn play<S: Space, A: Asked<S>>(
     space: S,
     own: &mut [Trial<S::Point>],
