@@ -1,3 +1,4 @@
 pub mod Line
 pub mod Text
 pub mod Lines
+pub mod Told

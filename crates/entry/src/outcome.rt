@@ -1,4 +1,7 @@
 // What a line gives: an entry, or what is wrong with the line.
+ghost use Rattle.std.specs.Prelude.{Some};
+ghost use Rattle.entry.specs.Told.{malformed_text};
+
 use std::fmt;
 
 // A trial as it is written: the tag of its settings, the delay and the life that were measured.
@@ -19,6 +22,8 @@ pub enum Malformed {
 }
 
 impl fmt::Display for Malformed {
+    ghost output = { λ m. Some (malformed_text m) };
+
     fn fmt<W: fmt::Write>(&self, f: &mut fmt::Formatter<W>) -> fmt::Result {
         match self {
             Malformed::Fields(count) => write!(f, "3 numbers wanted, {count} found"),
