@@ -9,6 +9,8 @@ pub use triangle::{Share, Triangle};
 #[cfg(test)]
 mod any_space;
 #[cfg(test)]
+mod points;
+#[cfg(test)]
 mod ratio_grids;
 #[cfg(test)]
 mod refusals;

@@ -1,4 +1,5 @@
 // Ratio spaces: the worked figures, both ends of each range, and every refusal in every objective.
+use crate::points::only;
 use crate::refusals::told;
 use ratio::{RatioSpace, Scale};
 use space::{Recorded, Space};
@@ -8,17 +9,9 @@ fn scale(per_cent: u32, ceiling: u32) -> Scale {
     Scale { per_cent, ceiling }
 }
 
-// The point of one figure.
-fn only(v: u32) -> [u32; 6] {
-    [v, 0, 0, 0, 0, 0]
-}
-
 #[test]
 fn half_as_much_again(rt: HostRuntime) -> Result<(), Fail> {
-    let Ok(space) = RatioSpace::new(&[scale(50, 1000)]) else {
-        assert!(rt; false);
-        return Ok(());
-    };
+    let space = RatioSpace::new(&[scale(50, 1000)]).ok().ok_or("a space")?;
     assert_eq!(rt; space.extent(0), 17);
     for (i, edge) in [1, 2, 3, 4, 6, 9, 13, 19].iter().enumerate() {
         assert_eq!(rt; space.box_number(0, &only(*edge)) as usize, i);
@@ -38,10 +31,7 @@ fn half_as_much_again(rt: HostRuntime) -> Result<(), Fail> {
 
 #[test]
 fn one_per_cent(rt: HostRuntime) -> Result<(), Fail> {
-    let Ok(space) = RatioSpace::new(&[scale(1, 563_381)]) else {
-        assert!(rt; false);
-        return Ok(());
-    };
+    let space = RatioSpace::new(&[scale(1, 563_381)]).ok().ok_or("a space")?;
     assert_eq!(rt; space.extent(0), 1024);
     assert_eq!(rt; space.box_number(0, &only(563_381)), 1023);
     assert_eq!(rt; told(RatioSpace::new(&[scale(1, 563_382)])), Some((7, 0)));
@@ -59,6 +49,7 @@ fn refusals(rt: HostRuntime) {
         scale(1, 1_000_000),
     ];
     for fault in faults {
+        // by place: the fault stands at each in turn
         for at in 0..6usize {
             let mut scales = [good; 6];
             scales[at] = fault;
@@ -73,17 +64,13 @@ fn refusals(rt: HostRuntime) {
 
 #[test]
 fn bytes(rt: HostRuntime) -> Result<(), Fail> {
-    let Ok(space) = RatioSpace::new(&[scale(50, 1000), scale(50, 1000)]) else {
-        assert!(rt; false);
-        return Ok(());
-    };
+    let space = RatioSpace::new(&[scale(50, 1000), scale(50, 1000)])
+        .ok()
+        .ok_or("a space")?;
     let mut out = [7u8; 8];
     assert!(rt; space.write(&[258, u32::MAX, 0, 0, 0, 0], &mut out).is_ok());
     assert_eq!(rt; out, [0, 0, 1, 2, 255, 255, 255, 255]);
-    let Ok(back) = space.read(&out) else {
-        assert!(rt; false);
-        return Ok(());
-    };
+    let back = space.read(&out).ok().ok_or("a point")?;
     assert_eq!(rt; back, [258, u32::MAX, 0, 0, 0, 0]);
     Ok(())
 }

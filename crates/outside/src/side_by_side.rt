@@ -20,10 +20,7 @@ const LIFE: ratio::Scale = ratio::Scale {
 
 #[test]
 fn spaces_of_any_kind(rt: HostRuntime) -> Result<(), Fail> {
-    let Ok(two) = Beside::new(Triangle, Triangle) else {
-        assert!(rt; false);
-        return Ok(());
-    };
+    let two = Beside::new(Triangle, Triangle).ok().ok_or("two spaces")?;
     assert_eq!(rt; two.objectives(), 6);
     let point = (
         Share {
@@ -53,18 +50,9 @@ fn spaces_of_any_kind(rt: HostRuntime) -> Result<(), Fail> {
 
 #[test]
 fn delay_beside_life(rt: HostRuntime) -> Result<(), Fail> {
-    let Ok(delays) = StepSpace::new(&[DELAY]) else {
-        assert!(rt; false);
-        return Ok(());
-    };
-    let Ok(lives) = RatioSpace::new(&[LIFE]) else {
-        assert!(rt; false);
-        return Ok(());
-    };
-    let Ok(space) = Beside::new(delays, lives) else {
-        assert!(rt; false);
-        return Ok(());
-    };
+    let delays = StepSpace::new(&[DELAY]).ok().ok_or("a space")?;
+    let lives = RatioSpace::new(&[LIFE]).ok().ok_or("a space")?;
+    let space = Beside::new(delays, lives).ok().ok_or("a space")?;
     let p = ([1100, 0, 0, 0, 0, 0], [120, 0, 0, 0, 0, 0]);
     let q = ([1200, 0, 0, 0, 0, 0], [100, 0, 0, 0, 0, 0]);
     assert_eq!(rt; space.extent(0), 20);
@@ -79,19 +67,13 @@ fn delay_beside_life(rt: HostRuntime) -> Result<(), Fail> {
     assert!(rt; space.write(&p, &mut bytes).is_ok());
     assert_eq!(rt; bytes, [0, 0, 4, 76, 0, 0, 0, 120]);
     assert_eq!(rt; point_bytes(&space, &p)[7], 120);
-    let Ok(back) = space.read(&bytes) else {
-        assert!(rt; false);
-        return Ok(());
-    };
+    let back = space.read(&bytes).ok().ok_or("a point")?;
     assert_eq!(rt; back.0[0], 1100);
     assert_eq!(rt; back.1[0], 120);
     let mut short = [9u8; 7];
     assert!(rt; space.write(&p, &mut short).is_err());
     assert_eq!(rt; short, [9; 7]);
-    let Err(unread) = space.read(&short) else {
-        assert!(rt; false);
-        return Ok(());
-    };
+    let unread = space.read(&short).err().ok_or("a refusal")?;
     assert_eq!(rt; unread.blank.0[0], 0);
     assert_eq!(rt; unread.blank.1[0], 0);
     Ok(())

@@ -1,4 +1,5 @@
 // Step spaces: the worked figures, both ends of each range, and every refusal in every objective.
+use crate::points::only;
 use crate::refusals::told;
 use space::{Recorded, Space};
 use std::test::Fail;
@@ -13,17 +14,11 @@ fn scale(direction: Direction, low: i32, high: i32, step: u32) -> Scale {
     }
 }
 
-// The point of one figure.
-fn only(v: i32) -> [i32; 6] {
-    [v, 0, 0, 0, 0, 0]
-}
-
 #[test]
 fn larger_is_better(rt: HostRuntime) -> Result<(), Fail> {
-    let Ok(space) = StepSpace::new(&[scale(Direction::LargerIsBetter, -10, 10, 4)]) else {
-        assert!(rt; false);
-        return Ok(());
-    };
+    let space = StepSpace::new(&[scale(Direction::LargerIsBetter, -10, 10, 4)])
+        .ok()
+        .ok_or("a space")?;
     assert_eq!(rt; space.extent(0), 6);
     for (v, number) in [(-10, 0), (-7, 0), (-6, 1), (1, 2), (2, 3), (10, 5)] {
         assert!(rt; space.admits(&only(v)));
@@ -41,10 +36,9 @@ fn larger_is_better(rt: HostRuntime) -> Result<(), Fail> {
 
 #[test]
 fn smaller_is_better(rt: HostRuntime) -> Result<(), Fail> {
-    let Ok(space) = StepSpace::new(&[scale(Direction::SmallerIsBetter, -10, 10, 4)]) else {
-        assert!(rt; false);
-        return Ok(());
-    };
+    let space = StepSpace::new(&[scale(Direction::SmallerIsBetter, -10, 10, 4)])
+        .ok()
+        .ok_or("a space")?;
     for (v, number) in [(10, 0), (7, 0), (6, 1), (-10, 5)] {
         assert_eq!(rt; space.box_number(0, &only(v)), number);
     }
@@ -56,10 +50,7 @@ fn smaller_is_better(rt: HostRuntime) -> Result<(), Fail> {
 #[test]
 fn all_signed_figures(rt: HostRuntime) -> Result<(), Fail> {
     let wide = scale(Direction::LargerIsBetter, i32::MIN, i32::MAX, 4_194_304);
-    let Ok(space) = StepSpace::new(&[wide]) else {
-        assert!(rt; false);
-        return Ok(());
-    };
+    let space = StepSpace::new(&[wide]).ok().ok_or("a space")?;
     assert_eq!(rt; space.extent(0), 1024);
     assert_eq!(rt; space.box_number(0, &only(i32::MIN)), 0);
     assert_eq!(rt; space.box_number(0, &only(i32::MAX)), 1023);
@@ -87,6 +78,7 @@ fn refusals(rt: HostRuntime) {
         scale(Direction::SmallerIsBetter, 0, 1024, 1),
     ];
     for fault in faults {
+        // by place: the fault stands at each in turn
         for at in 0..6usize {
             let mut scales = [good; 6];
             scales[at] = fault;
@@ -110,26 +102,17 @@ fn bytes(rt: HostRuntime) -> Result<(), Fail> {
             i32::MAX.cast_unsigned(),
         ),
     ];
-    let Ok(space) = StepSpace::new(&scales) else {
-        assert!(rt; false);
-        return Ok(());
-    };
+    let space = StepSpace::new(&scales).ok().ok_or("a space")?;
     assert_eq!(rt; space.width(), 8);
     let mut out = [7u8; 8];
     assert!(rt; space.write(&[-2, i32::MIN, 0, 0, 0, 0], &mut out).is_ok());
     assert_eq!(rt; out, [255, 255, 255, 254, 128, 0, 0, 0]);
-    let Ok(back) = space.read(&out) else {
-        assert!(rt; false);
-        return Ok(());
-    };
+    let back = space.read(&out).ok().ok_or("a point")?;
     assert_eq!(rt; back, [-2, i32::MIN, 0, 0, 0, 0]);
     let mut long = [7u8; 12];
     assert!(rt; space.write(&back, &mut long).is_err());
     assert_eq!(rt; long, [7; 12]);
-    let Err(unread) = space.read(&long) else {
-        assert!(rt; false);
-        return Ok(());
-    };
+    let unread = space.read(&long).err().ok_or("a refusal")?;
     assert_eq!(rt; unread.blank, [0; 6]);
     Ok(())
 }
