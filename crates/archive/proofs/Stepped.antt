@@ -25,6 +25,10 @@ use Rattle.archive.specs.Held.{held_by}
 use Rattle.archive.specs.Offering.{TagsInFront, Closed, gone_of, StepRight, replacing_row}
 use Rattle.archive.proofs.Decided.{first_beaten_from, outcome_by, judge_decided}
 
+-- what was decided over the members that were looked at is what there is to decide
+pub reached : {P : Type 0} (M : Meaning P) (t : Trial P) {looked members : List (Trial P)} {said is : Decision} → looked ≡ members → said ≡ decision M looked t → said ≡ is → decision M members t ≡ is
+reached M t same told case = ap (λ ms. decision M ms t) (sym same) ∙ sym told ∙ case
+
 -- tags in the order of the rows are tags in any order
 tags_in_row_order : {P : Type 0} (gone : List (Trial P)) (list list' : List ℕ) (n : ℕ) → n ≡ length gone → take n list' ≡ map (λ r. r.tag) gone → drop n list' ≡ drop n list → TagsInFront gone list list'
 tags_in_row_order gone list list' n long tags rest = record {

@@ -55,8 +55,8 @@ impl<'a, S: Space> Boxed<'a, S> {
         }
     }
 
-    // Whether this trial dominates q. Written apart from the question of that name in the crate of what stands, which is the yardstick
-    // that an archive is held against.
+    // Whether this trial dominates q. The crate of what stands has the question too: the project keeps apart from the archive what an
+    // archive is held against.
     pub(crate) fn dominates(&self, q: &S::Point) -> bool
         ensures { result ≡ dominates (S.Space.meaning self.now.space.now) self.now.trial.point q.now }
     {

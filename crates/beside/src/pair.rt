@@ -28,7 +28,8 @@ impl<A: Space, B: Space> Beside<A, B> {
     }
 
     // Whether the two have at most six objectives together. The maker lets no other pair out, but the laws speak of every value
-    // of the type. A ghost field would say that they fit; but no derive takes a type that has both parameters and such a field.
+    // of the type. A ghost field would say that they fit; but no derive of `Clone` or `Copy` takes a type that has both parameters
+    // and such a field.
     fn fits(&self) -> bool
         ensures { result ≡ fit (A.Space.meaning self.now.first) (B.Space.meaning self.now.second) }
     {
@@ -43,6 +44,7 @@ impl<A: Space, B: Space> Space for Beside<A, B> {
 
     ghost lawful = { λ s. lawful_pair _ _ (A.Space.lawful s.first) (B.Space.lawful s.second) };
 
+    // Like `width` below: one function for both takes two closures, or a trait for what adds up, and is no shorter.
     fn objectives(&self) -> usize {
         if self.fits() {
             self.first.objectives() + self.second.objectives()

@@ -1,5 +1,6 @@
 // The questions of a grid, over the rules of its objectives. Six places are asked, and past the last objective
-// a place has no rule: only zero may stand there, and it makes no difference.
+// a place has no rule: only zero may stand there, and it makes no difference. The rules and the two points stand apart in the parameters,
+// as a space is asked: the points are what is asked about, and a pair of them is nothing of its own.
 ghost use Rattle.std.specs.Prelude.{◌≡◌, ℕ, Bool, map, MatchOption};
 ghost use Rattle.grid.specs.Space.{admits_at, all_below, covers_at, figure_at, grid_meaning, line_at, no_worse_at, unused};
 
@@ -29,7 +30,7 @@ fn admits_at<A: Axis>(axes: &[A], p: &[A::Figure], i: usize) -> bool
 }
 
 // Whether p's figure is no worse than q's at place i. This question and that of covering are two functions: one for both takes an
-// enum of the two, a `match` over it and a definition more, and is no shorter.
+// enum of the two or a closure, and its contract then says again, over any relation, what each of these says in a line.
 fn no_worse_at<A: Axis>(axes: &[A], p: &[A::Figure], q: &[A::Figure], i: usize) -> bool
     ensures { result ≡ no_worse_at A.Figure.Figure.bits (map A.Axis.line axes.now) p.now q.now i }
 {

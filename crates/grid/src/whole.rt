@@ -15,7 +15,7 @@ pub struct Grid<A> {
     ghost few: { (1 ≤ objectives) × (objectives ≤ 6) × (length axes ≡ 6) },
 }
 
-// No derive takes a type that has both a parameter and a ghost field.
+// By hand: no derive of `Clone` or `Copy` takes a type that has both a parameter and a ghost field.
 impl<A: Copy> Copy for Grid<A> {}
 
 impl<A: Copy> Clone for Grid<A> {

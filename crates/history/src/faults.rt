@@ -3,7 +3,7 @@ ghost use Rattle.std.specs.Prelude.{◌≡◌};
 ghost use Rattle.history.specs.Reports.{denied_report, feed_report, from_log};
 
 use crate::denials::Denial;
-use log_block::{BlockFault, Fault, RecordFault, Report};
+use log_block::{BlockFault, Fault, Layer, RecordFault, Report};
 
 // What a feed is refused for. Faults of the block and of its records are carried whole.
 #[derive(Clone, Copy, PartialEq, Eq, Debug)]
@@ -31,7 +31,7 @@ impl FeedFault {
         match self {
             FeedFault::StrangeRows => Report {
                 number: Denial::StrangeRows.number(),
-                layer: 3,
+                layer: Layer::Archive as u8,
                 place: 0,
             },
             FeedFault::Block(fault) => fault.report(),
@@ -51,7 +51,7 @@ impl DeniedTrial {
         };
         Report {
             number: denial.number(),
-            layer: 3,
+            layer: Layer::Archive as u8,
             place,
         }
     }

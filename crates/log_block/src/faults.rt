@@ -38,6 +38,17 @@ pub enum Fault {
     Record(RecordFault),
 }
 
+// The layers that find faults, with the numbers that are told of them.
+#[derive(Clone, Copy, PartialEq, Eq, Debug)]
+pub enum Layer {
+    // a block as a whole
+    Block = 1,
+    // the records of a block
+    Record = 2,
+    // an archive
+    Archive = 3,
+}
+
 // A fault by its number, the layer that found it, and its place.
 #[derive(Clone, Copy, PartialEq, Eq, Debug, Default)]
 pub struct Report {
@@ -59,7 +70,7 @@ impl BlockFault {
         };
         Report {
             number,
-            layer: 1,
+            layer: Layer::Block as u8,
             place,
         }
     }
@@ -75,7 +86,7 @@ impl RecordFault {
         | RecordFault::Tail(place)) = *self;
         Report {
             number: 13,
-            layer: 2,
+            layer: Layer::Record as u8,
             place,
         }
     }

@@ -13,7 +13,7 @@ mod theorems;
 mod writing;
 
 pub use checking::check;
-pub use faults::{BlockFault, Fault, RecordFault, Report};
+pub use faults::{BlockFault, Fault, Layer, RecordFault, Report};
 pub use parts::{Placed, Record};
 pub use reading::Records;
 pub use sums::seal;

@@ -1,4 +1,5 @@
-// Writing a block: of trials alone, or of records of both kinds.
+// Writing a block: of trials alone, or of records of both kinds. The block that is lent, its objectives and its number are what the
+// caller gives; together they are a value once the block is begun, as `Draft`.
 ghost use Rattle.std.specs.Prelude.{◌≡◌, ◌+◌, ◌≤◌, ℕ, map, length, take, Ok, IfOk, OnOk};
 ghost use Rattle.std.specs.List.{AllByRecursion};
 ghost use Rattle.log_block.specs.Block.{block_of, checked, filled};

@@ -41,11 +41,11 @@ impl Reader {
     }
 
     // The trial of an entry, as its tag and the bytes of its point.
-    fn trial_line<'a>(&self, entry: &Entry) -> Line<'a>
-        ensures item { line_item result ≡ entry_item entry.now }
-        ensures back { trials_read (line_item result ∷ []) ≡ trials_of (Ok entry.now ∷ []) }
+    fn trial_line<'a>(&self, entry: Entry) -> Line<'a>
+        ensures item { line_item result ≡ entry_item entry }
+        ensures back { trials_read (line_item result ∷ []) ≡ trials_of (Ok entry ∷ []) }
     {
-        let trial = trial_of(entry);
+        let trial = trial_of(&entry);
         Line::Trial {
             tag: trial.tag,
             point: point_bytes(&self.space, &trial.point),
@@ -61,7 +61,7 @@ impl Reader {
             Some(text) if text.len() > LONGEST_NOTE => Err(Unsaid::LongNote(text.len())),
             Some(text) => Ok(Line::Note(text)),
             None => read_entry(line)
-                .map(|entry| self.trial_line(&entry))
+                .map(|entry| self.trial_line(entry))
                 .map_err(Unsaid::NoTrial),
         }
     }

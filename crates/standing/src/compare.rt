@@ -1,4 +1,5 @@
-// How two points and their boxes compare.
+// How two points and their boxes compare. The space and the points stand apart in the parameters, as a space is asked: a pair of points
+// is nothing of its own.
 ghost use Rattle.std.specs.Prelude.{◌≡◌, ℕ, ◌<◌, false, Decides, nat_le};
 ghost use Rattle.space.specs.Boxes.{Dominates, AtLeast, SameBox, BoxDominates};
 ghost use Rattle.standing.specs.Standing.{Related};

@@ -39,7 +39,8 @@ impl Axis for StepAxis {
     }
 
     fn admits(&self, v: i32) -> bool {
-        // `contains` of a range needs a file of answers, and a wrong `admits` is to be refused at its own line
+        // `contains` of this range gets its proof from a file of answers alone, and the project wants a wrong `admits` refused at its own
+        // line
         self.scale.low <= v && v <= self.scale.high
     }
 

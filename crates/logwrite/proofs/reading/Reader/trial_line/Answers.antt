@@ -8,7 +8,7 @@ use Rattle.logwrite.proofs.reading.Reader.trial_line.Goals as goal
 
 pub returns-clause-back : goal.returns-clause-back
 returns-clause-back c =
-    let e = c.args.entry.now in
+    let e = c.args.entry in
     let d : signed_bits.holds e.delay ≡ true = search rules in
     let l : e.life < 2 ^ 32 = search rules in
     let made = c.trial_of-trial.ensures in
