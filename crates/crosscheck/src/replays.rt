@@ -76,7 +76,7 @@ fn turns_of<'a, A: AskOf<'a>>(heap: Global, calls: &'a [Call]) -> Result<Vec<Tur
     // by a loop, since a `map` that wraps what the trait made gets no proof
     let mut turns = Vec::new(heap);
     for ask in calls.iter().filter_map(|call| A::ask_of(call)) {
-        turns.push(Turn { ask, answer: None })?;
+        turns.push(Turn::new(ask))?;
     }
     Ok(turns)
 }
