@@ -63,10 +63,7 @@ where
         same(space.width() == bytes.len(), "how many bytes a point takes")?;
         let written = point_bytes(space, &first);
         same(
-            written
-                .iter()
-                .zip(bytes.iter())
-                .all(|(one, other)| one == other),
+            written.starts_with(bytes.as_slice()),
             "the bytes of a point",
         )?;
         same(
