@@ -3,21 +3,25 @@ use crate::apart::Apart;
 use crate::figures::{Point, Ratios, Rule, Steps};
 use crate::histories::{Call, History, Task};
 use crate::told::Told;
-use std::io;
+use std::{fmt, io};
 
-// One rule.
-fn print_rule(rt: &HostRuntime, rule: &Rule) -> io::Result<()> {
-    match rule {
-        Rule::Step(
-            Steps {
-                better,
-                low,
-                high,
-                step,
-            },
-        ) => println!(rt; "step, {better} is better, from {low} to {high} by {step}"),
-        Rule::Ratio(Ratios { per_cent, ceiling }) => {
-            println!(rt; "ratio, {per_cent} per cent, up to {ceiling}")
+impl fmt::Display for Rule {
+    fn fmt<W: fmt::Write>(&self, f: &mut fmt::Formatter<W>) -> fmt::Result {
+        match self {
+            Rule::Step(
+                Steps {
+                    better,
+                    low,
+                    high,
+                    step,
+                },
+            ) => write!(
+                f,
+                "step, {better} is better, from {low} to {high} by {step}"
+            ),
+            Rule::Ratio(Ratios { per_cent, ceiling }) => {
+                write!(f, "ratio, {per_cent} per cent, up to {ceiling}")
+            }
         }
     }
 }
@@ -64,12 +68,10 @@ fn print_call(rt: &HostRuntime, number: usize, call: &Call) -> io::Result<()> {
 // A history: its space, its rows, its calls, and what is restored to.
 pub(crate) fn print_history(rt: &HostRuntime, history: &History) -> io::Result<()> {
     for rule in history.scales.first.iter() {
-        print!(rt; "first space: ")?;
-        print_rule(rt, rule)?;
+        println!(rt; "first space: {rule}")?;
     }
     for rule in history.scales.second.iter() {
-        print!(rt; "second space: ")?;
-        print_rule(rt, rule)?;
+        println!(rt; "second space: {rule}")?;
     }
     let rows = history.rows;
     println!(rt; "rows {rows}")?;
