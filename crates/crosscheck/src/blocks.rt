@@ -63,11 +63,9 @@ impl Kind {
 
     // The kind of this byte.
     fn of_byte(byte: u8) -> Option<Kind> {
-        match byte {
-            1 => Some(Kind::Trial),
-            2 => Some(Kind::Note),
-            _ => None,
-        }
+        [Kind::Trial, Kind::Note]
+            .into_iter()
+            .find(|kind| kind.byte() == byte)
     }
 }
 
@@ -182,10 +180,10 @@ fn point_at(rules: &Rules, bytes: &[u8], place: usize) -> Point {
 // Goes on where nothing follows the last record, which ends here.
 fn check_tail(bytes: &[u8], end: usize) -> Result<(), Fault> {
     let mut tail = bytes.iter().enumerate().take(SUMS_AT).skip(end);
-    match tail.find(|(_, byte)| **byte != 0) {
-        Some((place, _)) => Err(Fault::new(Denial::BadRecord, Layer::Record, place)),
-        None => Ok(()),
-    }
+    tail.find(|(_, byte)| **byte != 0)
+        .map_or(Ok(()), |(place, _)| {
+            Err(Fault::new(Denial::BadRecord, Layer::Record, place))
+        })
 }
 
 // The trials of a block in their order, or what is wrong with it.
