@@ -29,15 +29,17 @@ fn square(heap: Global, high: i32, step: u32) -> Result<Scales, AllocError> {
 
 // An offer of each of these points over so many rows, with tags from 1 on, and then an audit, a list and a save.
 fn offers(heap: Global, rows: usize, points: &[(i64, i64)]) -> Result<Vec<Call>, AllocError> {
-    let mut calls = Vec::new(heap);
-    for (tag, (x, y)) in (1u32..).zip(points) {
-        let task = Task::Offer {
-            room: rows,
-            tag,
-            point: [*x, *y, 0, 0, 0, 0, 0, 0, 0, 0, 0, 0],
-        };
-        calls.push(Call { rows, task })?;
-    }
+    let mut calls: Vec<Call> = (1u32..)
+        .zip(points)
+        .map(|(tag, (x, y))| Call {
+            rows,
+            task: Task::Offer {
+                room: rows,
+                tag,
+                point: [*x, *y, 0, 0, 0, 0, 0, 0, 0, 0, 0, 0],
+            },
+        })
+        .collect(heap)?;
     end(&mut calls, rows)?;
     Ok(calls)
 }
