@@ -129,11 +129,7 @@ impl Source<'_> {
 
     // A block that a restore is given in front, at times.
     fn block_in_front(&mut self) -> Result<Option<Vec<u8>>, AllocError> {
-        if self.chance.once_in(4) {
-            self.block().map(Some)
-        } else {
-            Ok(None)
-        }
+        self.chance.once_in(4).then(|| self.block()).transpose()
     }
 
     // How many rows there are to restore to: mostly as many again.
