@@ -179,7 +179,7 @@ impl Second {
             if !admits(&self.rules, &one.point) {
                 return Some((i, i));
             }
-            let mut later = self.members.iter().enumerate().skip(i).skip(1);
+            let mut later = self.members.iter().enumerate().skip(i.saturating_add(1));
             later
                 .find(|(_, other)| one.clashes_with(other))
                 .map(|(j, _)| (i, j))
