@@ -1,6 +1,7 @@
 // The account that is printed: what was refused and why, where each trial lies, which boxes stand, and the totals.
 use crate::figures::Figures;
 use entry::{Entry, Malformed};
+use history::Denial;
 use logger::{HIGHEST, LONGEST, LoggerSpace, Point, trial_of};
 use space::{Space, Trial};
 use standing::{opens_box, same_box, trial_stands};
@@ -35,10 +36,11 @@ pub(crate) fn print_refusals(
 
 // Which figure of the entry is off the grid.
 fn print_off_grid(rt: &HostRuntime, number: usize, entry: &Entry) -> anyhow::Result<()> {
+    let denied = Denial::OffGrid.number();
     let tag = entry.tag;
     let delay = entry.delay;
     let life = entry.life;
-    print!(rt; "line {number} refused 5, off the grid: tag {tag}")?;
+    print!(rt; "line {number} refused {denied}, off the grid: tag {tag}")?;
     if !(0..=LONGEST).contains(&delay) {
         print!(rt; ", delay {delay} is not from 0 to {LONGEST}")?;
     }

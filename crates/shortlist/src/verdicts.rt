@@ -37,10 +37,14 @@ impl fmt::Display for Sums {
     fn fmt<W: fmt::Write>(&self, f: &mut fmt::Formatter<W>) -> fmt::Result {
         write!(
             f,
-            "verdict 0 {} verdict 1 {} verdict 2 {} verdict 3 {} denied {} displaced {}",
+            "verdict {} {} verdict {} {} verdict {} {} verdict {} {} denied {} displaced {}",
+            Verdict::PassedOver.number(),
             self.passed_over,
+            Verdict::Entered.number(),
             self.entered,
+            Verdict::Displaced.number(),
             self.displacing,
+            Verdict::Replaced.number(),
             self.replacing,
             self.denied,
             self.displaced
