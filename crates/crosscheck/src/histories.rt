@@ -10,11 +10,18 @@ pub(crate) enum Shape {
     Ratio,
 }
 
+// The rules of one space, and how it divides its objectives.
+#[derive(Drop)]
+pub(crate) struct Side {
+    pub shape: Shape,
+    pub rules: Vec<Rule>,
+}
+
 // Which of the first archive's spaces a history is over: one alone, or two side by side.
-#[derive(Clone, Copy, PartialEq, Eq, Debug)]
-pub(crate) enum Kind {
-    Alone(Shape),
-    Pair(Shape, Shape),
+#[derive(Drop)]
+pub(crate) enum Scales {
+    Alone(Side),
+    Pair(Side, Side),
 }
 
 // What a call does, with what it is to be lent beside the rows: how much of the list, how much of the block.
@@ -34,14 +41,6 @@ pub(crate) struct Call {
     pub task: Task,
 }
 
-// The rules of two spaces, of which the second has none where there is one space alone.
-#[derive(Drop)]
-pub(crate) struct Scales {
-    pub kind: Kind,
-    pub first: Vec<Rule>,
-    pub second: Vec<Rule>,
-}
-
 // A history over a space that can be made.
 #[derive(Drop)]
 pub(crate) struct History {
@@ -59,13 +58,30 @@ pub(crate) struct History {
 }
 
 impl Scales {
+    // The rules of the space alone, or of the one in front.
+    pub(crate) fn first(&self) -> &[Rule] {
+        match self {
+            Scales::Alone(side) | Scales::Pair(side, _) => side.rules.as_slice(),
+        }
+    }
+
+    // The rules of the space behind, none where there is one space alone.
+    pub(crate) fn second(&self) -> &[Rule] {
+        match self {
+            Scales::Alone(_) => &[],
+            Scales::Pair(_, side) => side.rules.as_slice(),
+        }
+    }
+
     // The rules, place by place: six of each space.
     pub(crate) fn rules(&self) -> Rules {
+        let first = self.first();
+        let second = self.second();
         array::from_fn(|i| {
             let rule = if i < 6 {
-                self.first.get(i)
+                first.get(i)
             } else {
-                self.second.get(i - 6)
+                second.get(i - 6)
             };
             rule.copied()
         })

@@ -67,10 +67,10 @@ fn print_call(rt: &HostRuntime, number: usize, call: &Call) -> io::Result<()> {
 
 // A history: its space, its rows, its calls, and what is restored to.
 pub(crate) fn print_history(rt: &HostRuntime, history: &History) -> io::Result<()> {
-    for rule in history.scales.first.iter() {
+    for rule in history.scales.first() {
         println!(rt; "first space: {rule}")?;
     }
-    for rule in history.scales.second.iter() {
+    for rule in history.scales.second() {
         println!(rt; "second space: {rule}")?;
     }
     let rows = history.rows;

@@ -1,7 +1,7 @@
 // Spaces and points made up by chance: points on every edge of a box, at the ends of the grid and off it.
 use crate::chance::Chance;
 use crate::figures::{Better, PLACES, Point, Ratios, Rule, Rules, Steps, edge_after};
-use crate::histories::{Kind, Scales, Shape};
+use crate::histories::{Scales, Shape, Side};
 use crate::narrow::narrowed;
 use std::alloc::{AllocError, Global};
 
@@ -83,53 +83,58 @@ fn rule_by(chance: &mut Chance, shape: Shape, objectives: usize) -> Rule {
     }
 }
 
-// So many rules of one kind.
-fn rules_of(
+// A space of so many rules of one kind.
+fn side_of(
     heap: Global,
     chance: &mut Chance,
     shape: Shape,
     count: usize,
     objectives: usize,
-) -> Result<Vec<Rule>, AllocError> {
-    (0..count)
+) -> Result<Side, AllocError> {
+    let rules = (0..count)
         .map(|_| rule_by(chance, shape, objectives))
-        .collect(heap)
+        .collect(heap)?;
+    Ok(Side { shape, rules })
 }
 
-// Which space: alone or side by side.
-fn kind_by(chance: &mut Chance) -> Kind {
-    match chance.below(8) {
-        0 | 1 => Kind::Alone(Shape::Step),
-        2 | 3 => Kind::Alone(Shape::Ratio),
-        4 => Kind::Pair(Shape::Step, Shape::Step),
-        5 => Kind::Pair(Shape::Step, Shape::Ratio),
-        6 => Kind::Pair(Shape::Ratio, Shape::Step),
-        _ => Kind::Pair(Shape::Ratio, Shape::Ratio),
+// The shapes of two spaces side by side, of which there are four pairs.
+fn pair_of(number: u64) -> (Shape, Shape) {
+    match number {
+        0 => (Shape::Step, Shape::Step),
+        1 => (Shape::Step, Shape::Ratio),
+        2 => (Shape::Ratio, Shape::Step),
+        _ => (Shape::Ratio, Shape::Ratio),
     }
+}
+
+// Scales of one space, with one to six objectives.
+fn alone_by(heap: Global, chance: &mut Chance, shape: Shape) -> Result<Scales, AllocError> {
+    let all = chance.size(6).saturating_add(1);
+    Ok(Scales::Alone(side_of(heap, chance, shape, all, all)?))
+}
+
+// Scales of two spaces side by side, with two to six objectives in all.
+fn pair_by(
+    heap: Global,
+    chance: &mut Chance,
+    shapes: (Shape, Shape),
+) -> Result<Scales, AllocError> {
+    let (first, second) = shapes;
+    let front = chance.size(5).saturating_add(1);
+    let back = chance.size(6usize.saturating_sub(front)).saturating_add(1);
+    let all = front.saturating_add(back);
+    Ok(Scales::Pair(
+        side_of(heap, chance, first, front, all)?,
+        side_of(heap, chance, second, back, all)?,
+    ))
 }
 
 // Scales of a space that can be made, with one to six objectives.
 pub(crate) fn scales_by(heap: Global, chance: &mut Chance) -> Result<Scales, AllocError> {
-    let kind = kind_by(chance);
-    match kind {
-        Kind::Alone(shape) => {
-            let all = chance.size(6).saturating_add(1);
-            Ok(Scales {
-                kind,
-                first: rules_of(heap, chance, shape, all, all)?,
-                second: Vec::new(heap),
-            })
-        }
-        Kind::Pair(first, second) => {
-            let front = chance.size(5).saturating_add(1);
-            let back = chance.size(6usize.saturating_sub(front)).saturating_add(1);
-            let all = front.saturating_add(back);
-            Ok(Scales {
-                kind,
-                first: rules_of(heap, chance, first, front, all)?,
-                second: rules_of(heap, chance, second, back, all)?,
-            })
-        }
+    match chance.below(8) {
+        0 | 1 => alone_by(heap, chance, Shape::Step),
+        2 | 3 => alone_by(heap, chance, Shape::Ratio),
+        drawn => pair_by(heap, chance, pair_of(drawn.saturating_sub(4))),
     }
 }
 
@@ -200,16 +205,16 @@ fn bent_rule(chance: &mut Chance, rule: Rule) -> Rule {
     }
 }
 
-// Rules of which some may be wrong, and as many as may be too many or none.
-fn bent_rules(heap: Global, chance: &mut Chance, shape: Shape) -> Result<Vec<Rule>, AllocError> {
+// A space of rules of which some may be wrong, and as many as may be too many or none.
+fn bent_side(heap: Global, chance: &mut Chance, shape: Shape) -> Result<Side, AllocError> {
     let count = chance.size(8);
-    let mut rules = rules_of(heap, chance, shape, count, count)?;
-    for rule in rules.iter_mut() {
+    let mut side = side_of(heap, chance, shape, count, count)?;
+    for rule in side.rules.iter_mut() {
         if chance.once_in(4) {
             *rule = bent_rule(chance, *rule);
         }
     }
-    Ok(rules)
+    Ok(side)
 }
 
 // Scales of a space that perhaps cannot be made.
@@ -219,28 +224,18 @@ pub(crate) fn bent_scales_by(heap: Global, chance: &mut Chance) -> Result<Scales
     } else {
         Shape::Step
     };
-    Ok(Scales {
-        kind: Kind::Alone(shape),
-        first: bent_rules(heap, chance, shape)?,
-        second: Vec::new(heap),
-    })
+    Ok(Scales::Alone(bent_side(heap, chance, shape)?))
 }
 
 // Scales of two sound spaces, of up to six objectives each, which may be too many together.
 pub(crate) fn wide_scales_by(heap: Global, chance: &mut Chance) -> Result<Scales, AllocError> {
     let front = chance.size(6).saturating_add(1);
     let back = chance.size(6).saturating_add(1);
-    let (first, second) = match chance.below(4) {
-        0 => (Shape::Step, Shape::Step),
-        1 => (Shape::Step, Shape::Ratio),
-        2 => (Shape::Ratio, Shape::Step),
-        _ => (Shape::Ratio, Shape::Ratio),
-    };
-    Ok(Scales {
-        kind: Kind::Pair(first, second),
-        first: rules_of(heap, chance, first, front, 4)?,
-        second: rules_of(heap, chance, second, back, 4)?,
-    })
+    let (first, second) = pair_of(chance.below(4));
+    Ok(Scales::Pair(
+        side_of(heap, chance, first, front, 4)?,
+        side_of(heap, chance, second, back, 4)?,
+    ))
 }
 
 // A figure at or near the lower edge of a box, the upper one, or within it; `from` and `to` are both edges.

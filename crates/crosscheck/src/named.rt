@@ -2,7 +2,7 @@
 use crate::blocks::BLOCK;
 use crate::calling::history_of;
 use crate::figures::{Better, Ratios, Rule, Steps};
-use crate::histories::{Call, History, Kind, Scales, Shape, Task};
+use crate::histories::{Call, History, Scales, Shape, Side, Task};
 use std::alloc::{AllocError, Global};
 
 // A history and its name.
@@ -20,11 +20,10 @@ fn square(heap: Global, high: i32, step: u32) -> Result<Scales, AllocError> {
         high,
         step,
     });
-    Ok(Scales {
-        kind: Kind::Alone(Shape::Step),
-        first: vec![in heap; rule; 2]?,
-        second: Vec::new(heap),
-    })
+    Ok(Scales::Alone(Side {
+        shape: Shape::Step,
+        rules: vec![in heap; rule; 2]?,
+    }))
 }
 
 // An offer of each of these points over so many rows, with tags from 1 on, and then an audit, a list and a save.
@@ -120,10 +119,13 @@ pub(crate) fn log_history(heap: Global, bytes: &[u8]) -> Result<History, AllocEr
         per_cent: 50,
         ceiling: 1000,
     });
-    let scales = Scales {
-        kind: Kind::Pair(Shape::Step, Shape::Ratio),
-        first: vec![in heap; delay]?,
-        second: vec![in heap; life]?,
+    let delays = Side {
+        shape: Shape::Step,
+        rules: vec![in heap; delay]?,
+    };
+    let lives = Side {
+        shape: Shape::Ratio,
+        rules: vec![in heap; life]?,
     };
     let mut calls = Vec::new(heap);
     for piece in bytes.chunks(BLOCK) {
@@ -134,5 +136,5 @@ pub(crate) fn log_history(heap: Global, bytes: &[u8]) -> Result<History, AllocEr
         })?;
     }
     end(&mut calls, LOG_ROWS)?;
-    Ok(history_of(heap, scales, LOG_ROWS, calls))
+    Ok(history_of(heap, Scales::Pair(delays, lives), LOG_ROWS, calls))
 }

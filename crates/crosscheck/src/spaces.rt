@@ -4,7 +4,7 @@ use crate::bridge::Figured;
 use crate::case::Case;
 use crate::denial::Denial;
 use crate::figures::{Better, Rule};
-use crate::histories::{History, Kind, Scales, Shape};
+use crate::histories::{History, Scales, Shape};
 use crate::numbered::Numbered;
 use crate::tally::{Tally, one_more};
 use beside::Beside;
@@ -129,7 +129,7 @@ fn paired<A: Space + Copy, B: Space + Copy>(
     scales: &Scales,
     tally: &mut Tally,
 ) -> Result<Option<Beside<A, B>>, Stop> {
-    let all = scales.first.len().saturating_add(scales.second.len());
+    let all = scales.first().len().saturating_add(scales.second().len());
     match Beside::new(first, second) {
         Ok(space) => {
             same(all <= 6, "whether two spaces fit")?;
@@ -172,7 +172,7 @@ impl History {
     where
         S::Point: Figured,
     {
-        let Some(space) = made::<S>(heap, self.scales.first.as_slice(), tally)? else {
+        let Some(space) = made::<S>(heap, self.scales.first(), tally)? else {
             return Ok(());
         };
         Case::new(heap, space, self).hold(tally)
@@ -184,10 +184,10 @@ impl History {
         (A::Point, B::Point): Figured,
     {
         let scales = &self.scales;
-        let Some(first) = made::<A>(heap, scales.first.as_slice(), tally)? else {
+        let Some(first) = made::<A>(heap, scales.first(), tally)? else {
             return Ok(());
         };
-        let Some(second) = made::<B>(heap, scales.second.as_slice(), tally)? else {
+        let Some(second) = made::<B>(heap, scales.second(), tally)? else {
             return Ok(());
         };
         let Some(space) = paired(first, second, scales, tally)? else {
@@ -196,23 +196,27 @@ impl History {
         Case::new(heap, space, self).hold(tally)
     }
 
-    // The history over its space, if that can be made. The kind is a value and the space a type, so each kind has an arm.
+    // The history over its space, if that can be made. The shape is a value and the space a type, so each has an arm.
     pub(crate) fn hold(&self, heap: Global, tally: &mut Tally) -> Result<(), Stop> {
-        match self.scales.kind {
-            Kind::Alone(Shape::Step) => self.hold_alone::<StepSpace>(heap, tally),
-            Kind::Alone(Shape::Ratio) => self.hold_alone::<RatioSpace>(heap, tally),
-            Kind::Pair(Shape::Step, Shape::Step) => {
-                self.hold_pair::<StepSpace, StepSpace>(heap, tally)
-            }
-            Kind::Pair(Shape::Step, Shape::Ratio) => {
-                self.hold_pair::<StepSpace, RatioSpace>(heap, tally)
-            }
-            Kind::Pair(Shape::Ratio, Shape::Step) => {
-                self.hold_pair::<RatioSpace, StepSpace>(heap, tally)
-            }
-            Kind::Pair(Shape::Ratio, Shape::Ratio) => {
-                self.hold_pair::<RatioSpace, RatioSpace>(heap, tally)
-            }
+        match &self.scales {
+            Scales::Alone(side) => match side.shape {
+                Shape::Step => self.hold_alone::<StepSpace>(heap, tally),
+                Shape::Ratio => self.hold_alone::<RatioSpace>(heap, tally),
+            },
+            Scales::Pair(first, second) => match (first.shape, second.shape) {
+                (Shape::Step, Shape::Step) => {
+                    self.hold_pair::<StepSpace, StepSpace>(heap, tally)
+                }
+                (Shape::Step, Shape::Ratio) => {
+                    self.hold_pair::<StepSpace, RatioSpace>(heap, tally)
+                }
+                (Shape::Ratio, Shape::Step) => {
+                    self.hold_pair::<RatioSpace, StepSpace>(heap, tally)
+                }
+                (Shape::Ratio, Shape::Ratio) => {
+                    self.hold_pair::<RatioSpace, RatioSpace>(heap, tally)
+                }
+            },
         }
     }
 }
