@@ -35,6 +35,13 @@ fn more(count: &mut u64, by: usize) {
     *count = count.saturating_add(u64::try_from(by).unwrap_or(0));
 }
 
+// One more in the place of this number.
+fn one_more_at(counts: &mut [u64], number: u8) {
+    if let Some(count) = counts.get_mut(usize::from(number)) {
+        one_more(count);
+    }
+}
+
 // Whether each of a kind occurred.
 fn has_each<K: Numbered>(counts: &[u64]) -> bool {
     K::ALL.iter().all(|kind| kind.count_in(counts) > 0)
@@ -43,9 +50,7 @@ fn has_each<K: Numbered>(counts: &[u64]) -> bool {
 impl Tally {
     // A denial of this number.
     pub(crate) fn denial(&mut self, number: u8) {
-        if let Some(count) = self.denials.get_mut(usize::from(number)) {
-            one_more(count);
-        }
+        one_more_at(&mut self.denials, number);
     }
 
     // What the trials of a block came to.
@@ -66,9 +71,7 @@ impl Tally {
             Told::Judged { verdict, displaced } => {
                 one_more(&mut self.trials);
                 more(&mut self.displaced, *displaced);
-                if let Some(count) = self.verdicts.get_mut(usize::from(*verdict)) {
-                    one_more(count);
-                }
+                one_more_at(&mut self.verdicts, *verdict);
             }
             Told::Fed(fed) => self.fed(fed),
             Told::Denied(number) => {
