@@ -15,11 +15,17 @@ pub(crate) struct Source<'a> {
 }
 
 impl Source<'_> {
-    // The point with one figure moved by one, so that it may be better or worse within a box.
-    fn nudged(&mut self, mut point: Point) -> Point {
+    // A figure of the point by chance, with its rule; none where that place has none.
+    fn some_figure<'p>(&mut self, point: &'p mut Point) -> Option<(&'p mut i64, Rule)> {
         let rules = self.rules;
         let i = self.chance.size(PLACES);
-        if let (Some(figure), Some(Some(rule))) = (point.get_mut(i), rules.get(i)) {
+        let rule = rules.get(i).copied().flatten()?;
+        Some((point.get_mut(i)?, rule))
+    }
+
+    // The point with one figure moved by one, so that it may be better or worse within a box.
+    fn nudged(&mut self, mut point: Point) -> Point {
+        if let Some((figure, rule)) = self.some_figure(&mut point) {
             let moved = figure.saturating_add(self.chance.between(-1, 1));
             if rule.admits(moved) {
                 *figure = moved;
@@ -30,9 +36,7 @@ impl Source<'_> {
 
     // The point with one figure off the grid, where there is room for one.
     pub(crate) fn stray(&mut self, mut point: Point) -> Point {
-        let rules = self.rules;
-        let i = self.chance.size(PLACES);
-        if let (Some(figure), Some(Some(rule))) = (point.get_mut(i), rules.get(i)) {
+        if let Some((figure, rule)) = self.some_figure(&mut point) {
             *figure = match rule {
                 Rule::Step(steps) => i64::from(steps.high.saturating_add(1)),
                 Rule::Ratio(_) => 0,
