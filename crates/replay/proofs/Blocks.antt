@@ -1,5 +1,5 @@
 -- A call of any kind over the rows that it is lent, a feed or a save among them.
-use Rattle.std.proofs.Common.{◌≡◌, ℕ, ◌≤◌, true, cond, not, eqb, leb, List, ◌++◌, length, take, drop, is_err, Ok, Err, Result, sym, refl, ap, ◌∙◌, subst, ⊎_elim, inl, inr, arith}
+use Rattle.std.proofs.Common.{◌≡◌, ℕ, ◌≤◌, true, cond, not, eqb, leb, List, ◌++◌, length, take, drop, is_err, Ok, Err, Result, sym, refl, ap, ◌∙◌, subst, ⊎_elim, inl, inr}
 use Rattle.std.specs.Result.{result_map_both}
 use Rattle.std.proofs.lemmas.List.{length-take-le, take-append-drop}
 use Rattle.std.proofs.lemmas.Bool.{cases_Bool, cond-false, cond-true, eqb-true, ne_eqb, not_from_false}
@@ -28,6 +28,7 @@ use Rattle.replay.specs.declared.asking.Ask.TheVariants as ask
 use Rattle.replay.specs.Asking.{call_of}
 use Rattle.replay.specs.Leaving.{LeavesBlock, LeavesBoth, LeavesList, Lendings, SaveLeaves}
 use Rattle.replay.specs.Replaying.{AnyReading, MadeAs, OwnReading, RanAs, RecordedRan}
+use Rattle.replay.proofs.Leavings.{never}
 
 -- a call of any space is as well one of a recorded one, which leaves the block as it was
 kept : {P : Type 0} (M : Meaning P) (R : Recording P) (rows own other long wide : ℕ) (ms : List (Trial P)) (x : Ask P) (before after : List ℕ) → after ≡ before → LeavesBlock M R rows ms (call_of own other long x) before after
@@ -66,10 +67,6 @@ module _ {P : Type 0} (M : Meaning P) (R : Recording P) where
         strange = λ n. (right.untouched (refused n)).1;
         apart = λ n held. record { same_rows = right.same_rows; stays = λ reads is. subst (λ reads. StaysAs M reads a.rows call (told_feed r) a.count held b.count held) (sym is) (right.stays_apart n held); leaves = (refl, refl) };
       }
-
--- no denial is a success
-never : (d : Denial) (n : ℕ) → ◌≡◌ {A = Result ℕ Denial} (Err d) (Ok n) → ⊥
-never d n e = let z : ◌≡◌ {A = ℕ} 0 1 = cc in omega arith
 
 -- a save that is granted was lent a block of the right length
 granted_long : (rows lent size n : ℕ) (rest : Result ℕ Denial) → own_rows rows lent (cond (not (eqb size 512)) (Err WrongLength) rest) ≡ Ok n → size ≡ 512

@@ -42,7 +42,7 @@ module _ (whole : List ℕ) (room : ℕ) (within : room ≤ length whole) where
       }
 
 -- no denial is a success
-never : (d : Denial) (n : ℕ) → ◌≡◌ {A = Result ℕ Denial} (Err d) (Ok n) → ⊥
+pub never : (d : Denial) (n : ℕ) → ◌≡◌ {A = Result ℕ Denial} (Err d) (Ok n) → ⊥
 never d n e = let z : ◌≡◌ {A = ℕ} 0 1 = cc in omega arith
 
 -- the members that go, by what is to be judged

@@ -42,9 +42,6 @@ module _ {P X : Type 0} (M : Meaning P) (Reading : (List ℕ → P) → Type 0) 
     pub left : (reads : List ℕ → P) → Reading reads → Left One M reads b.rows history.events x y
 
 -- offers, audits and lists, which are lent a list
-abbrev pub Ran : {P : Type 0} → Meaning P → Call P → Lent P → Answer → Lent P → Type 0
-Ran M call a r b = RanAs M AnyReading (Leaves M) call a a.list r b b.list
-
 abbrev pub ReplayRight : {P : Type 0} → Meaning P → List (Call P) → List (Option Answer) → List ℕ → Lent P → Type 0
 ReplayRight M made told before b = ReplayedAs M AnyReading (Leaves M) made told before b b.list
 
