@@ -70,16 +70,18 @@ fn pairs(rt: HostRuntime) {
 fn what_stands(rt: HostRuntime) {
     let space = Triangle;
     let trials = trials();
-    let boxes = [true, true, true, false, true, false];
-    let opens = [true, true, true, false, false, false];
-    let alone = [true, true, true, false, true, true];
-    for (i, stands) in boxes.iter().enumerate() {
-        assert_eq!(rt; box_stands(&space, &trials, i), *stands);
-    }
-    for (i, opens) in opens.iter().enumerate() {
+    // of each trial: whether its box stands, whether it opens that box, and whether it stands itself
+    let fates = [
+        (true, true, true),
+        (true, true, true),
+        (true, true, true),
+        (false, false, false),
+        (true, false, true),
+        (false, false, true),
+    ];
+    for (i, (boxed, opens, stands)) in fates.iter().enumerate() {
+        assert_eq!(rt; box_stands(&space, &trials, i), *boxed);
         assert_eq!(rt; opens_box(&space, &trials, i), *opens);
-    }
-    for (i, stands) in alone.iter().enumerate() {
         assert_eq!(rt; trial_stands(&space, &trials, i), *stands);
     }
     assert!(rt; !box_stands(&space, &trials, 6));

@@ -36,16 +36,9 @@ fn spaces_of_any_kind(rt: HostRuntime) -> Result<(), Fail> {
     assert_eq!(rt; two.box_number(4, &point), 1);
     assert_eq!(rt; two.extent(5), 3);
     assert_eq!(rt; two.extent(6), 1);
-    match Beside::new(two, Triangle) {
-        Ok(_) => {
-            assert!(rt; false);
-            Ok(())
-        },
-        Err(refused) => {
-            assert_eq!(rt; refused.number(), 8);
-            Ok(())
-        },
-    }
+    let refused = Beside::new(two, Triangle).err();
+    assert_eq!(rt; refused.map(|fault| fault.number()), Some(8));
+    Ok(())
 }
 
 #[test]
