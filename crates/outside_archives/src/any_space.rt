@@ -83,14 +83,14 @@ fn a_replay_over_a_triangle(rt: HostRuntime) -> Result<(), Fail> {
     let mut own = [share(0, 0, 0); 2];
     let mut strange = [share(9, 9, 9); 1];
     let mut list = [77; 2];
-    let trials = trials();
+    let [a, b, c, d, e, f] = trials().map(offer);
     let mut turns = [
-        offer(trials[0]),
-        offer(trials[1]),
-        offer(trials[2]),
-        offer(trials[3]),
-        offer(trials[4]),
-        offer(trials[5]),
+        a,
+        b,
+        c,
+        d,
+        e,
+        f,
         Turn::new(Ask::Audit { rows: 1 }),
         Turn::new(Ask::Audit { rows: 2 }),
         Turn::new(Ask::List { rows: 2, room: 2 }),

@@ -59,10 +59,11 @@ fn calls_and_answers(rt: HostRuntime) -> Result<(), Fail> {
 fn a_replay_over_no_rows(rt: HostRuntime) -> Result<(), Fail> {
     let space = square(9, 1).ok_or("a space")?;
     let mut turns = [Turn::new(Ask::Audit { rows: 0 })];
-    match replay(space, &mut [], &mut [], &mut [], &mut turns) {
-        Err(refused) => assert_eq!(rt; refused.denial, Denial::NoRows),
-        Ok(_) => assert!(rt; false),
-    }
+    let made = replay(space, &mut [], &mut [], &mut [], &mut turns);
+    assert_eq!(rt;
+        made.err().map(|refused| refused.denial),
+        Some(Denial::NoRows)
+    );
     assert_eq!(rt; turns[0].answer, None);
     Ok(())
 }
