@@ -129,10 +129,11 @@ fn a_replay_over_no_rows(rt: HostRuntime) -> Result<(), Fail> {
     let space = square(2, 9).ok_or("a space")?;
     let mut block = [7; 512];
     let mut turns = [save(0, 0, 512)];
-    match replay_recorded(space, &mut [], &mut [], &mut [], &mut block, &mut turns) {
-        Err(refused) => assert_eq!(rt; refused.denial, Denial::NoRows),
-        Ok(_) => assert!(rt; false),
-    }
+    let made = replay_recorded(space, &mut [], &mut [], &mut [], &mut block, &mut turns);
+    assert_eq!(rt;
+        made.err().map(|refused| refused.denial),
+        Some(Denial::NoRows)
+    );
     assert_eq!(rt; turns[0].answer, None);
     assert!(rt; block == [7; 512]);
     Ok(())

@@ -4,7 +4,7 @@ use crate::squares::{filled, same_rows, square};
 use archive::{Archive, RestoreFault, Restored, restore};
 use history::{Denial, DeniedTrial, Fed};
 use log_block::{BlockFault, Fault, RecordFault};
-use outside_parts::at;
+use outside_parts::{at, report};
 use space::Trial;
 use std::test::Fail;
 use step::StepSpace;
@@ -35,32 +35,31 @@ fn blocks_at_fault(rt: HostRuntime) {
     let torn = torn(four(), 9);
     let tail = changed(four(), &[(507, 1)]);
     let mut rows = [at(6, 0, 8), at(99, -5, 123)];
-    for (blocks, index, fault, report) in [
+    for (blocks, index, fault, told) in [
         (
             [good, torn, tail],
             1,
             Fault::Block(BlockFault::Torn),
-            (10, 1, 508),
+            report(10, 1, 508),
         ),
         (
             [good, good, tail],
             2,
             Fault::Record(RecordFault::Tail(507)),
-            (13, 2, 507),
+            report(13, 2, 507),
         ),
         (
             [tail, torn, good],
             0,
             Fault::Record(RecordFault::Tail(507)),
-            (13, 2, 507),
+            report(13, 2, 507),
         ),
     ] {
         assert_eq!(rt;
             refused(&mut rows, &[&blocks[0], &blocks[1], &blocks[2]]),
             Some(RestoreFault::Block { index, fault })
         );
-        let told = fault.report();
-        assert_eq!(rt; (told.number, told.layer, told.place), report);
+        assert_eq!(rt; Some(fault.report()), told);
     }
     assert!(rt; same_rows(&rows, &[at(6, 0, 8), at(99, -5, 123)]));
 }

@@ -49,8 +49,6 @@ pub(crate) fn tags(archive: &Archive<StepSpace>, rows: &[Trial<[i32; 6]>]) -> [u
 
 // Whether these rows are the same, point by point and tag by tag.
 pub(crate) fn same_rows(a: &[Trial<[i32; 6]>], b: &[Trial<[i32; 6]>]) -> bool {
-    a.len() == b.len()
-        && a.iter()
-            .zip(b)
-            .all(|(x, y)| x.tag == y.tag && x.point == y.point)
+    let parts = |row: &Trial<[i32; 6]>| (row.point, row.tag);
+    a.iter().map(parts).eq(b.iter().map(parts))
 }
