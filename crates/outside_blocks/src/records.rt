@@ -12,6 +12,7 @@ fn trial(tag: u32, point: &[u8; 8]) -> Record<'_> {
 }
 
 // The next record is to be this note, at this place.
+// By a match: a record has no equality of its own, and its parts are told apart where they differ.
 pub(crate) fn note_next(rt: &impl Abort, records: &mut Records<'_>, place: usize, text: &[u8]) {
     let Some(found) = records.next() else {
         assert!(rt; false);
@@ -24,7 +25,7 @@ pub(crate) fn note_next(rt: &impl Abort, records: &mut Records<'_>, place: usize
     }
 }
 
-// The next record is to be this trial, at this place.
+// The next record is to be this trial, at this place. By a match too, for the same reasons.
 pub(crate) fn trial_next(
     rt: &impl Abort,
     records: &mut Records<'_>,
