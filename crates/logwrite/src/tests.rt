@@ -16,10 +16,7 @@ fn refused(
     let log = write_log(heap, text)?;
     assert_eq!(rt; log.lines.len(), reasons.len());
     for (line, reason) in log.lines.iter().zip(reasons) {
-        match line {
-            Ok(_) => assert_eq!(rt; None, *reason),
-            Err(why) => assert_eq!(rt; Some(*why), *reason),
-        }
+        assert_eq!(rt; line.err(), *reason);
     }
     Ok(())
 }
