@@ -5,6 +5,7 @@ use outside_parts::report;
 use std::test::Fail;
 
 // Puts these bytes at these places.
+// Not one with the like of `outside_logs`: what a public one would promise takes a definition, an invariant and lemmas.
 fn put(block: &mut [u8], bytes: &[(usize, u8)]) {
     for (place, byte) in bytes {
         if *place < block.len() {

@@ -17,6 +17,7 @@ pub(crate) fn block_of(trials: &[TrialBytes]) -> [u8; 512] {
 }
 
 // Puts these bytes at these places of a block, and seals it again.
+// Not one with the like of `outside_blocks`: what a public one would promise takes a definition, an invariant and lemmas.
 pub(crate) fn changed(mut block: [u8; 512], changes: &[(usize, u8)]) -> [u8; 512] {
     for (place, byte) in changes {
         if *place < 512 {
