@@ -48,7 +48,7 @@ fn refusals(rt: HostRuntime) {
         scale(50, 1_000_001),
         scale(1, 1_000_000),
     ];
-    // not once over any `Grid<A>`: `new` asks there that a grid of any rule fits in memory, which no contract here can say
+    // tried over any `Grid<A>`: what the maker asks there of the size of a rule got no proof
     for fault in faults {
         // by place: the fault stands at each in turn
         for at in 0..6usize {

@@ -77,7 +77,7 @@ fn refusals(rt: HostRuntime) {
         scale(Direction::SmallerIsBetter, 0, 9, 2_147_483_648),
         scale(Direction::SmallerIsBetter, 0, 1024, 1),
     ];
-    // not once over any `Grid<A>`: `new` asks there that a grid of any rule fits in memory, which no contract here can say
+    // tried over any `Grid<A>`: what the maker asks there of the size of a rule got no proof
     for fault in faults {
         // by place: the fault stands at each in turn
         for at in 0..6usize {
