@@ -29,7 +29,8 @@ pub(crate) enum Layer {
     Archive = 3,
 }
 
-// What is wrong with a block, as it is told: its number, the number of the layer that it is found in, and the place.
+// What is wrong with a block, as it is told: its number, the number of the layer that it is found in, and the place. Numbers and no
+// enums: the faults of both archives are compared by the product's numbers, and the two share no type.
 #[derive(Clone, Copy, PartialEq, Eq, Debug)]
 pub(crate) struct Fault {
     pub number: u8,

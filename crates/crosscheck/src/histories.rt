@@ -10,7 +10,7 @@ pub(crate) enum Shape {
     Ratio,
 }
 
-// The rules of one space, and how it divides its objectives.
+// The rules of one space, and how it divides its objectives: beside them, since a space that is not to be made may have no rule.
 #[derive(Drop)]
 pub(crate) struct Side {
     pub shape: Shape,

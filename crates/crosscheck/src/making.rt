@@ -1,4 +1,5 @@
-// Spaces and points made up by chance: points on every edge of a box, at the ends of the grid and off it.
+// Spaces and points made up by chance: points on every edge of a box, at the ends of the grid and off it. The heap and the chance come
+// apart here, and not as a `Source`: that needs rules, and rules are made here.
 use crate::chance::Chance;
 use crate::figures::{Better, PLACES, Point, Ratios, Rule, Rules, Steps, edge_after};
 use crate::histories::{Scales, Shape, Side};

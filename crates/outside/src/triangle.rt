@@ -50,6 +50,7 @@ impl Space for Triangle {
         u64::from(p.reads) + u64::from(p.writes) <= 10
     }
 
+    // the three are written out, here and in `covers`, as the definition has them
     fn no_worse(&self, p: &Share, q: &Share) -> bool {
         q.part(0) <= p.part(0) && q.part(1) <= p.part(1) && q.part(2) <= p.part(2)
     }

@@ -25,7 +25,8 @@ pub(crate) fn note_next(rt: &impl Abort, records: &mut Records<'_>, place: usize
     }
 }
 
-// The next record is to be this trial, at this place. By a match too, for the same reasons.
+// The next record is to be this trial, at this place. By a match too, for the same reasons, and not by one function for both kinds: they
+// share the first lines alone.
 pub(crate) fn trial_next(
     rt: &impl Abort,
     records: &mut Records<'_>,

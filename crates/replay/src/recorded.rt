@@ -12,7 +12,8 @@ use archive::Archive;
 use history::{Answer, Fed, FeedFault};
 use space::{Recorded, Trial};
 
-// What a feed answers, as what any call may answer.
+// What a feed answers, as what any call may answer. Apart from `told`: a feed is refused for a fault and no denial, and one for both needs a
+// `From` of each for `Answer`.
 fn fed(said: Result<Fed, FeedFault>) -> Answer
     ensures { result ≡ told_feed said }
 {

@@ -59,7 +59,8 @@ impl<'a, S: Space> Tried<'a, S> {
     }
 }
 
-// Whether trial i is on the grid and no trial on the grid dominates it.
+// Whether trial i is on the grid and no trial on the grid dominates it. Here and below the space and the trials come apart, as a space is
+// asked; together they are a `Tried`.
 pub fn trial_stands<S: Space>(space: &S, trials: &[Trial<S::Point>], i: usize) -> bool
     ensures { Decides result (TrialStands (S.Space.meaning space.now) trials.now i) }
 {
