@@ -8,6 +8,8 @@ pub mod Fitting
 pub mod Firsts
 pub mod Headers
 pub mod Never
+pub mod Remainders
 pub mod Sealing
 pub mod Steps
 pub mod Tails
+pub mod Weighing

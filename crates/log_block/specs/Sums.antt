@@ -18,12 +18,9 @@ running bs = map (λ k. low_sum (take (k + 1) bs)) (range_with_len 0 (length bs)
 unfoldable pub high_sum : List ℕ → ℕ
 high_sum bs = sum (running bs) % 65536
 
--- both sums of some bytes, and both after one byte more
+-- both sums of some bytes
 abbrev pub sums_of : List ℕ → Sums
 sums_of bs = record { low = low_sum bs; high = high_sum bs }
-
-abbrev pub with_byte : Sums → ℕ → Sums
-with_byte s b = record { low = (s.low + b) % 65536; high = (s.high + (s.low + b) % 65536) % 65536 }
 
 -- the bytes that seal what comes before them
 abbrev pub check_bytes : List ℕ → List ℕ

@@ -1,7 +1,7 @@
 // The two sums that seal a block.
-ghost use Rattle.std.specs.Prelude.{◌≡◌, ◌++◌, take};
+ghost use Rattle.std.specs.Prelude.{◌≡◌, ◌<◌, ◌++◌, length, take};
 ghost use Rattle.word.specs.Word.{two_bytes};
-ghost use Rattle.log_block.specs.Sums.{seal_answer, sealed, sealed_anew, sums_of, with_byte, with_sums};
+ghost use Rattle.log_block.specs.Sums.{seal_answer, sealed, sealed_anew, sums_of, with_sums};
 
 use crate::faults::BlockFault;
 use crate::parts::Block;
@@ -14,25 +14,25 @@ struct Sums {
 }
 
 impl Sums {
-    // Both sums after one byte more.
-    fn after(self, byte: u8) -> Sums
-        ensures { result ≡ with_byte self byte }
-    {
-        let low = self.low.wrapping_add(u16::from(byte));
-        let high = self.high.wrapping_add(low);
-        Sums { low, high }
-    }
-
-    // Both sums of some bytes, in one pass.
+    // Both sums of some bytes. The first sum has a value after each byte, and a byte is in the value after it and in all later ones:
+    // the second sum holds it that many times. Written so, no byte waits for the sum of those before it, and the compiler adds
+    // several at a time.
+    #[tactic(auto, using(crate::proofs::Weighing::byte_by_byte))]
     fn of(bytes: &[u8]) -> Sums
+        requires { length bytes.now < 65536 }
         ensures { result ≡ sums_of bytes.now }
     {
-        let mut sums = Sums { low: 0, high: 0 };
-        // a loop and no fold: the proof of what a fold of both sums gives did not close
+        let mut low = 0u16;
+        let mut high = 0u16;
+        let mut weight = bytes.len() as u16;
+        // a loop and no fold: that the weight is above 0 is known at each turn of a loop alone
         for byte in bytes {
-            sums = sums.after(*byte);
+            let byte = u16::from(*byte);
+            low = low.wrapping_add(byte);
+            high = high.wrapping_add(weight.wrapping_mul(byte));
+            weight -= 1;
         }
-        sums
+        Sums { low, high }
     }
 
     // Writes the sums into the last four bytes.
