@@ -1,5 +1,6 @@
 -- Two spaces side by side, by their meanings and by their bytes.
-use Rattle.std.specs.Prelude.{◌+◌, ◌-◌, Bool, false, cond, ◌&&◌, ◌++◌, take, drop, nat_le, nat_lt}
+use Rattle.std.specs.Prelude.{ℕ, ◌+◌, ◌-◌, Bool, false, cond, ◌&&◌, List, ◌++◌, map, take, drop, nat_le, nat_lt, Option, Some, None}
+use Rattle.std.specs.List.{range_with_len}
 use Rattle.space.specs.Meaning.{Meaning}
 use Rattle.space.specs.Recording.{Recording, blank_point}
 use Rattle.beside.specs.declared.pair.Beside.{Beside}
@@ -62,3 +63,7 @@ meaning_of M N s = pair_meaning (M s.first) (N s.second)
 
 abbrev pub recording_of : {A B P Q : Type 0} → (A → Meaning P) → (B → Meaning Q) → (A → Recording P) → (B → Recording Q) → Beside A B → Recording (P × Q)
 recording_of M N R S s = pair_recording (fit (M s.first) (N s.second)) (R s.first) (S s.second)
+
+-- the box numbers of both points in six objectives, those of the first in front, where both are on their grids
+abbrev pub boxes_joined : {P Q : Type 0} → Meaning P → Meaning Q → P × Q → Option (List ℕ)
+boxes_joined M N p = cond (M.admits p.0 && N.admits p.1) (Some (map (λ i. cond (nat_lt i M.objectives) (M.box i p.0) (N.box (i - M.objectives) p.1)) (range_with_len 0 6))) None

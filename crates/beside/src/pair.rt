@@ -1,11 +1,13 @@
 // Two spaces as one: what the pair means, and its bytes.
-ghost use Rattle.std.specs.Prelude.{◌≡◌, ◌*◌, ◌≤◌, length, take, drop, IfOk, if◌then◌else◌, Ok, Err};
+ghost use Rattle.std.specs.Prelude.{◌≡◌, ◌-◌, ◌*◌, ◌<◌, ◌≤◌, length, map, slice_index, take, drop, IfOk, if◌then◌else◌, nat_lt, Ok, Err};
+ghost use Rattle.std.specs.List.{range_with_len};
 ghost use Rattle.space.specs.Recording.{FourEach, WritableIfAdmitted, blank_point, read_point};
-ghost use Rattle.beside.specs.Pair.{fit, joined, meaning_of, recording_of};
+ghost use Rattle.beside.specs.Pair.{boxes_joined, fit, joined, meaning_of, recording_of};
 ghost use Rattle.beside.specs.Laws.{lawful_pair};
 ghost use Rattle.beside.specs.Recorded.{faithful_pair};
 
 use space::{Recorded, Space, TooMany, Unread, Unwritten, blank, read_or_blank};
+use std::array;
 
 // Two spaces, the first one's objectives in front.
 #[derive(Clone, Copy, Drop)]
@@ -34,6 +36,34 @@ impl<A: Space, B: Space> Beside<A, B> {
         ensures { result ≡ fit (A.Space.meaning self.now.first) (B.Space.meaning self.now.second) }
     {
         self.first.objectives() + self.second.objectives() <= 6
+    }
+
+    // The box numbers of both points, those of the first in front, if both are on their grids.
+    fn boxes_joined(&self, p: &(A::Point, B::Point)) -> Option<[u32; 6]>
+        ensures { result ≡ boxes_joined (A.Space.meaning self.now.first) (B.Space.meaning self.now.second) p.now }
+    {
+        let first = self.first.boxes(&p.0)?;
+        let second = self.second.boxes(&p.1)?;
+        Some(numbers_joined(self.first.objectives(), &first, &second))
+    }
+}
+
+// Two rows of numbers as one: the front of the first, and then the second.
+fn numbers_joined(front: usize, first: &[u32; 6], second: &[u32; 6]) -> [u32; 6]
+    ensures { result ≡ map (λ i. if nat_lt i front then slice_index first.now i else slice_index second.now (i - front)) (range_with_len 0 6) }
+{
+    array::from_fn(|i| number_joined(front, first, second, i))
+}
+
+// The number at place i of both rows.
+fn number_joined(front: usize, first: &[u32; 6], second: &[u32; 6], i: usize) -> u32
+    requires { i < 6 }
+    ensures { result ≡ (if nat_lt i front then slice_index first.now i else slice_index second.now (i - front)) }
+{
+    if i < front {
+        first[i]
+    } else {
+        second[i - front]
     }
 }
 
@@ -79,6 +109,14 @@ impl<A: Space, B: Space> Space for Beside<A, B> {
             self.first.box_number(i, &p.0)
         } else {
             self.second.box_number(i - front, &p.1)
+        }
+    }
+
+    fn boxes(&self, p: &(A::Point, B::Point)) -> Option<[u32; 6]> {
+        if self.fits() {
+            self.boxes_joined(p)
+        } else {
+            None
         }
     }
 

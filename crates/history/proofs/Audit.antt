@@ -5,9 +5,10 @@ use Rattle.std.specs.Option.{option_or}
 use Rattle.std.proofs.lemmas.Bool.{cond_both, cond-false, cases_Bool, not_from_true, not-false, or_from, or_parts}
 use Rattle.std.proofs.lemmas.Bool.Decides.{not_from_Decides}
 use Rattle.space.specs.Meaning.{Meaning, Lawful}
+use Rattle.space.specs.Boxes.{at_least}
 use Rattle.space.specs.declared.tagged.Trial.{Trial}
 use Rattle.history.specs.Lists.{EachIn, Pairwise}
-use Rattle.history.specs.Comparing.{Apart, at_least}
+use Rattle.history.specs.Comparing.{Apart}
 use Rattle.history.specs.State.{on_grid}
 use Rattle.history.specs.Auditing.{clash, clash_from, pair_from}
 use Rattle.history.specs.Theorems.{AuditClears}

@@ -3,10 +3,10 @@ use Rattle.std.proofs.Common.{◌≡◌, ℕ, zero, suc, ◌<◌, ◌≤◌, tru
 use Rattle.std.proofs.lemmas.Bool.{and_cases, leb-true, leb-false, le-leb, true≢false, cases_lt, cases_Bool, both_ways, not-true, not_from_false}
 use Rattle.std.proofs.lemmas.Bool.Decides.{Decides-like, Decides-not, Decides-and, Decides-below_and}
 use Rattle.space.specs.Meaning.{Meaning, Lawful}
-use Rattle.space.specs.Boxes.{Dominates, AtLeast, SameBox, BoxDominates}
+use Rattle.space.specs.Boxes.{Dominates, AtLeast, SameBox, BoxDominates, at_least_in, at_least, same_box}
 use Rattle.space.specs.declared.tagged.Trial.{Trial}
 use Rattle.history.specs.Lists.{◌∈◌, Pairwise}
-use Rattle.history.specs.Comparing.{Apart, dominates, at_least_in, at_least, same_box}
+use Rattle.history.specs.Comparing.{Apart, dominates}
 use Rattle.history.specs.Step.{below, beaten, shuts}
 use Rattle.history.specs.TwoLevel.{Below, Beaten, Shuts}
 use Rattle.history.proofs.Membership.{in_nothing, in_cons}

@@ -3,8 +3,9 @@ use Rattle.std.specs.Prelude.{◌≡◌, ℕ, ◌+◌, ◌<◌, ◌≤◌, Bool,
 use Rattle.std.specs.List.{slice_get}
 use Rattle.std.specs.Option.{option_or}
 use Rattle.space.specs.Meaning.{Meaning}
+use Rattle.space.specs.Boxes.{at_least}
 use Rattle.space.specs.declared.tagged.Trial.{Trial}
-use Rattle.history.specs.Comparing.{Apart, at_least}
+use Rattle.history.specs.Comparing.{Apart}
 use Rattle.history.specs.State.{on_grid}
 
 -- one of the two boxes equals or dominates the other

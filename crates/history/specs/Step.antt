@@ -1,11 +1,12 @@
 -- One step: a trial is judged against the members, over so many rows.
 use Rattle.std.specs.Prelude.{ℕ, Bool, cond, not, ◌&&◌, List, [], ◌∷◌, ◌++◌, length, filter, nat_lt}
 use Rattle.space.specs.Meaning.{Meaning}
+use Rattle.space.specs.Boxes.{at_least, box_dominates, same_box}
 use Rattle.space.specs.declared.tagged.Trial.{Trial}
 use Rattle.history.specs.declared.verdicts.Verdict.{Verdict}
 use Rattle.history.specs.declared.verdicts.Verdict.TheVariants.{PassedOver, Entered, Displaced, Replaced}
 use Rattle.history.specs.Lists.{any, first_of, without_first}
-use Rattle.history.specs.Comparing.{dominates, at_least, box_dominates, same_box}
+use Rattle.history.specs.Comparing.{dominates}
 
 -- what comes of a trial: a verdict with the members that go and the members after, or no row is left for it
 pub data Outcome (P : Type 0) : Type 0 where

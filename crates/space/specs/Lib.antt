@@ -1,4 +1,5 @@
 pub mod Meaning
 pub mod Recording
 pub mod Boxes
+pub mod Looking
 pub mod Refusal

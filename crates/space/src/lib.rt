@@ -2,12 +2,14 @@
 // and the laws that it keeps, and the second trait of those spaces whose points are also bytes.
 #![tactic(auto)]
 
+mod looking;
 mod meaning;
 mod recording;
 mod refusal;
 mod tagged;
 
-pub use meaning::Space;
+pub use looking::{Lie, Look};
+pub use meaning::{Space, six_boxes};
 pub use recording::{Recorded, Unread, Unwritten, blank, point_bytes, read_or_blank};
 pub use refusal::{BadGrid, TooMany};
 pub use tagged::Trial;

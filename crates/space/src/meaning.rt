@@ -1,6 +1,13 @@
-// A space of points: six questions that each read one part of its meaning, refuse nothing and change nothing.
+// A space of points: six questions that each read one part of its meaning, refuse nothing and change nothing. Two more put several
+// of them at once; every space has them from the six, and may answer them faster.
 ghost use Rattle.std.specs.Prelude.{◌≡◌};
+ghost use Rattle.space.specs.Boxes.{boxes_on, six_boxes};
+ghost use Rattle.space.specs.Looking.{look_of};
 ghost use Rattle.space.specs.Meaning.{Meaning, Lawful};
+
+use crate::looking::{Lie, Look};
+use crate::tagged::Trial;
+use std::array;
 
 pub trait Space {
     type Point: Copy;
@@ -31,5 +38,36 @@ pub trait Space {
     fn covers(&self, p: &Self::Point, q: &Self::Point) -> bool
         ensures { result ≡ (meaning self.now).covers p.now q.now };
 
+    // The box numbers of p in six objectives, 0 past the last; none off the grid.
+    fn boxes(&self, p: &Self::Point) -> Option<[u32; 6]>
+        ensures { result ≡ boxes_on (meaning self.now) p.now }
+    {
+        if self.admits(p) {
+            Some(array::from_fn(|i| self.box_number(i, p)))
+        } else {
+            None
+        }
+    }
+
+    // How p's box lies to those of these trials.
+    fn look(&self, p: &Self::Point, trials: &[Trial<Self::Point>]) -> Look
+        ensures { result ≡ look_of (meaning self.now) p.now trials.now }
+    {
+        let mine = self.boxes(p).unwrap_or([0; 6]);
+        let mut look = Look::default();
+        for trial in trials {
+            let theirs = self.boxes(&trial.point).unwrap_or([0; 6]);
+            look = look.with(Lie::of(&mine, &theirs));
+        }
+        look
+    }
+
     ghost lawful: { (s : Self) → Lawful (meaning s) };
+}
+
+// The box numbers of p in six objectives, 0 past the last, and for a point off the grid.
+pub fn six_boxes<S: Space>(space: &S, p: &S::Point) -> [u32; 6]
+    ensures { result ≡ six_boxes (S.Space.meaning space.now) p.now }
+{
+    space.boxes(p).unwrap_or([0; 6])
 }
