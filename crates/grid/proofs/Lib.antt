@@ -1,2 +1,4 @@
+pub mod Framing
 pub mod Lines
 pub mod Making
+pub mod Numbering

@@ -1,6 +1,7 @@
 pub mod Bits
 pub mod Bytes
 pub mod Line
+pub mod Ranges
 pub mod Making
 pub mod Space
 pub mod Laws
@@ -8,3 +9,4 @@ pub mod InUse
 pub mod Tests
 pub mod Recorded
 pub mod Whole
+pub mod Frames

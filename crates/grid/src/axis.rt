@@ -2,6 +2,7 @@
 ghost use Rattle.std.specs.Prelude.{◌≡◌, Bool, if◌then◌else◌, Some, None};
 ghost use Rattle.std.specs.Option.{option_map};
 ghost use Rattle.grid.specs.Line.{Line, LineLawful};
+ghost use Rattle.grid.specs.Ranges.{between, box_at_least, box_at_most};
 
 use crate::figure::Figure;
 
@@ -41,6 +42,15 @@ pub trait Axis: Copy {
     // Whether v is within the tolerance of w, or better.
     fn covers(&self, v: Self::Figure, w: Self::Figure) -> bool
         ensures { result ≡ (line self.now).covers v w };
+
+    // The figures on the grid whose box number is at most n: the least of them and the greatest. Where there is none, the first is above
+    // the second.
+    fn at_most(&self, n: u32) -> (Self::Figure, Self::Figure)
+        ensures { (v : Self.Figure) → between Self.Figure.Figure.bits result v ≡ box_at_most (line self.now) n v };
+
+    // Those whose box number is at least n, in the same way.
+    fn at_least(&self, n: u32) -> (Self::Figure, Self::Figure)
+        ensures { (v : Self.Figure) → between Self.Figure.Figure.bits result v ≡ box_at_least (line self.now) n v };
 
     ghost lawful: { (a : Self) → LineLawful (line a) };
 }

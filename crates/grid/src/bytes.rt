@@ -16,12 +16,15 @@ fn byte(bytes: &[u8], k: usize) -> u8
     bytes.get(k).copied().unwrap_or(0)
 }
 
-// The number that the four bytes of place i say.
+// The number that the four bytes of place i say. Most points have less than six figures: so it is asked first whether there is a byte.
 fn number(bytes: &[u8], i: usize) -> u32
     requires { i < 6 }
     ensures { result ≡ number_at bytes.now i }
 {
     let at = 4 * i;
+    if bytes.len() <= at {
+        return 0;
+    }
     u32::from_be_bytes([
         byte(bytes, at),
         byte(bytes, at + 1),

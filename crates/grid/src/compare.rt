@@ -1,8 +1,10 @@
 // The questions of a grid, over the rules of its objectives. Six places are asked, and past the last objective
 // a place has no rule: only zero may stand there, and it makes no difference. The rules and the two points stand apart in the parameters,
 // as a space is asked: the points are what is asked about, and a pair of them is nothing of its own.
-ghost use Rattle.std.specs.Prelude.{◌≡◌, ℕ, Bool, map, MatchOption};
-ghost use Rattle.grid.specs.Space.{admits_at, all_below, covers_at, figure_at, grid_meaning, line_at, no_worse_at, unused};
+ghost use Rattle.std.specs.Prelude.{◌≡◌, ℕ, ◌≤◌, Bool, map, length, MatchOption};
+ghost use Rattle.std.specs.List.{range_with_len};
+ghost use Rattle.space.specs.Boxes.{boxes_on};
+ghost use Rattle.grid.specs.Space.{admits_at, all_below, box_at, covers_at, figure_at, grid_meaning, line_at, no_worse_at, unused};
 
 use crate::axis::Axis;
 use crate::figure::{Figure, zero};
@@ -15,7 +17,7 @@ pub(crate) fn figure_at<F: Figure>(p: &[F], i: usize) -> F
 }
 
 // The rule of place i; none past the last objective.
-fn axis_at<A: Axis>(axes: &[A], i: usize) -> Option<&A>
+pub(crate) fn axis_at<A: Axis>(axes: &[A], i: usize) -> Option<&A>
     ensures { MatchOption result (line_at A.Figure.Figure.bits (map A.Axis.line axes.now) i ≡ unused A.Figure.Figure.bits) (λ a. line_at A.Figure.Figure.bits (map A.Axis.line axes.now) i ≡ A.Axis.line a.now) }
 {
     axes.get(i)
@@ -81,6 +83,31 @@ pub fn box_number<A: Axis>(axes: &[A], i: usize, p: &[A::Figure]) -> u32
         return 0;
     }
     axis_at(axes, i).map_or(0, |axis| axis.box_number(figure_at(p, i)))
+}
+
+// The boxes of a point's figures at all six places: asked of each rule, and 0 past the last objective.
+fn numbers<A: Axis>(axes: &[A], p: &[A::Figure]) -> [u32; 6]
+    requires { length axes.now ≤ 6 }
+    ensures { result ≡ map (box_at A.Figure.Figure.bits (map A.Axis.line axes.now) p.now) (range_with_len 0 6) }
+{
+    let mut numbers = [0; 6];
+    // by place: of what is written through a zipped `iter_mut` a proof knows nothing
+    for (i, axis) in axes.iter().enumerate() {
+        numbers[i] = axis.box_number(figure_at(p, i));
+    }
+    numbers
+}
+
+// The point's box numbers at all six places, if it is on the grid, which is asked once.
+pub(crate) fn boxes<A: Axis>(axes: &[A], p: &[A::Figure]) -> Option<[u32; 6]>
+    requires { length axes.now ≤ 6 }
+    ensures { result ≡ boxes_on (grid_meaning A.Figure.Figure.bits (map A.Axis.line axes.now)) p.now }
+{
+    if admits(axes, p) {
+        Some(numbers(axes, p))
+    } else {
+        None
+    }
 }
 
 // Whether p is within the tolerance of q, or better, in every objective.

@@ -17,6 +17,10 @@ pub trait Figure: Copy {
     fn is_zero(self) -> bool
         ensures { result ≡ bits.is_zero self };
 
+    // Whether this number is at most the other.
+    fn is_at_most(self, other: Self) -> bool
+        ensures { result ≡ bits.at_most self other };
+
     ghost exact: { Exact bits };
 }
 

@@ -6,6 +6,7 @@ mod axis;
 mod bytes;
 mod compare;
 mod figure;
+mod frame;
 mod make;
 mod signed;
 mod unsigned;

@@ -20,4 +20,8 @@ impl Figure for i32 {
     fn is_zero(self) -> bool {
         self == 0
     }
+
+    fn is_at_most(self, other: i32) -> bool {
+        self <= other
+    }
 }

@@ -20,4 +20,8 @@ impl Figure for u32 {
     fn is_zero(self) -> bool {
         self == 0
     }
+
+    fn is_at_most(self, other: u32) -> bool {
+        other >= self
+    }
 }

@@ -5,6 +5,7 @@ ghost use Rattle.ratio.specs.Rule.{extent_of, ratio_sound, ratio_line};
 ghost use Rattle.ratio.specs.Laws.{ratio_lawful};
 
 mod finding;
+mod ranges;
 
 use crate::edges::{MOST, fill_edges};
 use crate::scaling::Scale;
@@ -73,5 +74,13 @@ impl Axis for RatioAxis {
 
     fn covers(&self, v: u32, w: u32) -> bool {
         (100 + u64::from(self.scale.per_cent)) * u64::from(v) >= 100 * u64::from(w)
+    }
+
+    fn at_most(&self, n: u32) -> (u32, u32) {
+        self.figures_up_to(n)
+    }
+
+    fn at_least(&self, n: u32) -> (u32, u32) {
+        self.figures_from(n)
     }
 }

@@ -63,4 +63,12 @@ impl Axis for StepAxis {
     fn covers(&self, v: i32, w: i32) -> bool {
         self.scale.reach(v) > self.scale.height(w)
     }
+
+    fn at_most(&self, n: u32) -> (i32, i32) {
+        self.scale.at_most(n)
+    }
+
+    fn at_least(&self, n: u32) -> (i32, i32) {
+        self.scale.at_least(n)
+    }
 }

@@ -1,7 +1,9 @@
 // The numbers that a step rule is made from.
-ghost use Rattle.std.specs.Prelude.{◌≡◌, ◌+◌, ◌≤◌, true, pos, negsuc, ◌+ℤ◌, ◌-ℤ◌, ◌≤ℤ◌, int_le, unsigned_abs};
+ghost use Rattle.std.specs.Prelude.{◌≡◌, ◌+◌, ◌≤◌, true, ◌&&◌, ℤ, pos, negsuc, ◌+ℤ◌, ◌-ℤ◌, ◌≤ℤ◌, int_le, unsigned_abs};
+ghost use Rattle.grid.specs.Bits.{signed_bits};
+ghost use Rattle.grid.specs.Ranges.{between, box_at_least, box_at_most};
 ghost use Rattle.step.specs.Direction.{direction_number};
-ghost use Rattle.step.specs.Rule.{height, box_of, extent_of, on_grid, step_sound};
+ghost use Rattle.step.specs.Rule.{height, box_of, extent_of, on_grid, step_sound, step_line};
 
 // Which figures are better.
 #[derive(Clone, Copy, PartialEq, Eq, Debug)]
@@ -77,5 +79,46 @@ impl Scale {
         ensures { result ≡ box_of self.now v }
     {
         self.height(v) as u32 / self.step
+    }
+
+    // The figure on the grid whose height is this distance.
+    fn figure_at(&self, distance: u64) -> i32
+        requires { pos distance ≤ℤ (self.now.high -ℤ self.now.low) }
+        ensures { height self.now result ≡ pos distance }
+    {
+        match self.direction {
+            Direction::LargerIsBetter => (i64::from(self.low) + distance as i64) as i32,
+            Direction::SmallerIsBetter => (i64::from(self.high) - distance as i64) as i32,
+        }
+    }
+
+    // The figures from one height to another: the least of them and the greatest. Where there is none, the first is above the second.
+    fn figures(&self, from: u64, to: u64) -> (i32, i32)
+        requires { pos to ≤ℤ (self.now.high -ℤ self.now.low) }
+        ensures { (v : ℤ) → between signed_bits result v ≡ (int_le (pos from) (height self.now v) && int_le (height self.now v) (pos to)) }
+    {
+        if from > to {
+            return (i32::MAX, i32::MIN);
+        }
+        let worst = self.figure_at(from);
+        let best = self.figure_at(to);
+        (worst.min(best), worst.max(best))
+    }
+
+    // The figures on the grid below the height at which the box after n begins.
+    pub(crate) fn at_most(&self, n: u32) -> (i32, i32)
+        requires { step_sound self.now ≡ true }
+        ensures { (v : ℤ) → between signed_bits result v ≡ box_at_most (step_line self.now) n v }
+    {
+        let next = (u64::from(n) + 1) * u64::from(self.step);
+        self.figures(0, (next - 1).min(u64::from(self.span())))
+    }
+
+    // The figures on the grid from the height at which box n begins.
+    pub(crate) fn at_least(&self, n: u32) -> (i32, i32)
+        requires { step_sound self.now ≡ true }
+        ensures { (v : ℤ) → between signed_bits result v ≡ box_at_least (step_line self.now) n v }
+    {
+        self.figures(u64::from(n) * u64::from(self.step), u64::from(self.span()))
     }
 }

@@ -5,9 +5,10 @@ ghost use Rattle.grid.specs.InUse.{lawful_rules};
 ghost use Rattle.grid.specs.Whole.{meaning_by};
 
 use crate::axis::Axis;
-use crate::compare::{admits, box_number, covers, extent, no_worse};
+use crate::compare::{admits, box_number, boxes, covers, extent, no_worse};
+use crate::frame::look;
 use crate::whole::Grid;
-use space::Space;
+use space::{Look, Space, Trial};
 
 impl<A: Axis> Grid<A> {
     // The rules in use, one an objective.
@@ -51,5 +52,13 @@ impl<A: Axis> Space for Grid<A> {
 
     fn covers(&self, p: &[A::Figure; 6], q: &[A::Figure; 6]) -> bool {
         covers(self.rules(), p, q)
+    }
+
+    fn boxes(&self, p: &[A::Figure; 6]) -> Option<[u32; 6]> {
+        boxes(self.rules(), p)
+    }
+
+    fn look(&self, p: &[A::Figure; 6], trials: &[Trial<[A::Figure; 6]>]) -> Look {
+        look(self.rules(), p, trials)
     }
 }
