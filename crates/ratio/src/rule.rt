@@ -1,4 +1,4 @@
-// The rule itself: its edges are a table, made once and looked up by halving.
+// The rule itself: its edges are a table, made once.
 ghost use Rattle.std.specs.Prelude.{◌≡◌, ℕ, ◌<◌, ◌≤◌, true, slice_index};
 ghost use Rattle.ratio.specs.Edges.{edge, Holds};
 ghost use Rattle.ratio.specs.Rule.{extent_of, ratio_sound, ratio_line};
