@@ -1,9 +1,9 @@
-pub mod Boxed
 pub mod Closed
 pub mod Decided
 pub mod Extents
 pub mod Fed
 pub mod Idle
+pub mod Looked
 pub mod Offers
 pub mod Pairing
 pub mod Returned

@@ -1,11 +1,13 @@
 -- What each of the four steps leaves.
-use Rattle.std.proofs.Common.{◌≡◌, ℕ, suc, ◌+◌, ◌-◌, ◌<◌, ◌≤◌, Bool, true, false, cond, not, ◌||◌, ltb, List, [], ◌∷◌, ◌++◌, map, length, get_or, take, drop, set, Ok, Err, filter, sym, refl, ap, ◌∙◌, subst, add-one, arith, Result}
-use Rattle.std.specs.List.{copy_within, remove}
+use Rattle.std.proofs.Common.{◌≡◌, ℕ, suc, ◌+◌, ◌-◌, ◌<◌, ◌≤◌, Bool, true, false, cond, not, ltb, List, [], ◌∷◌, ◌++◌, map, length, get_or, take, drop, set, Ok, Err, Some, filter, sym, refl, ap, ◌∙◌, subst, add-one, arith, Result}
+use Rattle.std.specs.List.{copy_within, position, position_from, remove}
 use Rattle.std.specs.List.Sorted.{IsPermutation}
 use Rattle.std.proofs.lemmas.List.{length-take-le, length_push, length-set, length-append, length-drop, take-append-le, take_more_set, take-take, drop-take, get_or-take, drop_more, drop-set-lt}
 use Rattle.std.proofs.lemmas.List.Edits.{length-paste, length-remove, take-paste}
 use Rattle.std.proofs.lemmas.List.Filters.{length-filter_both}
 use Rattle.std.proofs.lemmas.List.Sorted.{IsPermutation-refl}
+use Rattle.std.proofs.lemmas.Iterator.Adapters.{position_from-zero}
+use Rattle.std.proofs.lemmas.Option.{none-some, same_Some}
 use Rattle.std.proofs.lemmas.Bool.{false≢true, cond-true, cond-false, lt-ltb, le-ltb}
 use Rattle.space.specs.Meaning.{Meaning}
 use Rattle.space.specs.declared.tagged.Trial.{Trial}
@@ -19,7 +21,7 @@ use Rattle.history.specs.Step.Outcome.{judged, full}
 use Rattle.history.proofs.Membership.{some_kept, length_without}
 use Rattle.archive.specs.declared.deciding.Decision.{Decision}
 use Rattle.archive.specs.declared.deciding.Decision.TheVariants.{Displace, Replace, PassOver, Enter}
-use Rattle.archive.specs.Deciding.{first_place, decision}
+use Rattle.archive.specs.Deciding.{decision}
 use Rattle.archive.specs.declared.members.Members.{Members}
 use Rattle.archive.specs.Held.{held_by}
 use Rattle.archive.specs.Offering.{TagsInFront, Closed, gone_of, StepRight, replacing_row}
@@ -174,27 +176,33 @@ abbrev pub OutAt : {A : Type 0} → List A → ℕ → List A → List A → Typ
 OutAt xs n this others = (n < length xs) × (take 1 (drop n xs) ≡ this) × (remove xs n ≡ others)
 
 module _ {A : Type 0} (f : A → Bool) where
-  place_from : (k : ℕ) (xs : List A) → k ≤ first_place f k xs
-  place_from k [] = omega arith
-  place_from k (x ∷ xs) = let r = place_from (k + 1) xs in elim (f x) as (λ b. k ≤ cond b k (first_place f (k + 1) xs)) [ true ↦ omega arith | false ↦ omega arith ]
+  place_from : (k : ℕ) (xs : List A) (n : ℕ) → position_from f k xs ≡ Some n → k ≤ n
+  place_from k [] n e = absurd (none-some n e)
+  place_from k (x ∷ xs) n e₀ =
+      (elim (f x) as (λ b. cond b (Some k) (position_from f (k + 1) xs) ≡ Some n → k ≤ n) [
+        | true ↦ λ e. let i = same_Some _ _ e in omega arith
+        | false ↦ λ e. let r = place_from (k + 1) xs n e in omega arith
+      ])
+      e₀
 
   -- the first that passes stands at its place, and without it the list closes up
-  at_first : (k : ℕ) (xs : List A) (n : ℕ) → any f xs ≡ true → first_place f k xs ≡ k + n → OutAt xs n (first_of f xs) (without_first f xs)
-  at_first k [] n e h = absurd (false≢true e)
-  at_first k (x ∷ xs) n e₀ h₀ =
-      let later : any f xs ≡ true → first_place f (k + 1) xs ≡ k + n → OutAt (x ∷ xs) n (first_of f xs) (x ∷ without_first f xs) = λ e h.
-      let on = place_from (k + 1) xs in
+  at_first : (k : ℕ) (xs : List A) (n : ℕ) → position_from f k xs ≡ Some (k + n) → OutAt xs n (first_of f xs) (without_first f xs)
+  at_first k [] n e = absurd (none-some (k + n) e)
+  at_first k (x ∷ xs) n e₀ =
+      let later : position_from f (k + 1) xs ≡ Some (k + n) → OutAt (x ∷ xs) n (first_of f xs) (x ∷ without_first f xs) = λ e.
+      let on = place_from (k + 1) xs (k + n) e in
       let m : n ≡ suc (n - 1) = omega arith in
-      let r = at_first (k + 1) xs (n - 1) e (omega arith) in
+      let on_from : k + n ≡ (k + 1) + (n - 1) = omega arith in
+      let r = at_first (k + 1) xs (n - 1) (e ∙ ap Some on_from) in
       subst (λ i. OutAt (x ∷ xs) i (first_of f xs) (x ∷ without_first f xs)) (sym m) (omega (arith, r.0), r.1, ap (λ l. x ∷ l) r.2) in
-      (elim (f x) as (λ b. (b || any f xs) ≡ true → cond b k (first_place f (k + 1) xs) ≡ k + n → OutAt (x ∷ xs) n (cond b (x ∷ []) (first_of f xs)) (cond b xs (x ∷ without_first f xs))) [
-        | true ↦ λ e h. let z : n ≡ 0 = omega arith in subst (λ i. OutAt (x ∷ xs) i (x ∷ []) xs) (sym z) (omega arith, refl, refl)
-        | false ↦ λ e h. later e h
+      (elim (f x) as (λ b. cond b (Some k) (position_from f (k + 1) xs) ≡ Some (k + n) → OutAt (x ∷ xs) n (cond b (x ∷ []) (first_of f xs)) (cond b xs (x ∷ without_first f xs))) [
+        | true ↦ λ e. let i : k ≡ k + n = same_Some _ _ e in let z : n ≡ 0 = omega arith in subst (λ i. OutAt (x ∷ xs) i (x ∷ []) xs) (sym z) (omega arith, refl, refl)
+        | false ↦ λ e. later e
       ])
-      e₀ h₀
+      e₀
 
-  pub at_place : (xs : List A) (n : ℕ) → any f xs ≡ true → n ≡ first_place f 0 xs → OutAt xs n (first_of f xs) (without_first f xs)
-  at_place xs n e h = at_first 0 xs n e (omega arith)
+  pub at_place : (xs : List A) (n : ℕ) → position f xs ≡ Some n → OutAt xs n (first_of f xs) (without_first f xs)
+  at_place xs n e = let here : n ≡ 0 + n = omega arith in at_first 0 xs n (sym (position_from-zero f xs) ∙ e ∙ ap Some here)
 
 -- no more members go than there are, and there is at most one member more than stayed
 abbrev pub FewGo : {P : Type 0} → List (Trial P) → Outcome P → Type 0
@@ -219,9 +227,9 @@ module _ {P : Type 0} (M : Meaning P) (t : Trial P) where
   few_go rows xs = subst (FewGo xs) (sym (judge_decided M t rows xs)) (few_decided rows xs (decision M xs t))
 
 -- the first beaten member goes by its row
-pub replacing_by_row : {P : Type 0} (M : Meaning P) (t : Trial P) (xs : List (Trial P)) (n : ℕ) → any (beaten M t) xs ≡ true → n ≡ first_place (beaten M t) 0 xs → replacing M xs t ≡ replacing_row xs n t
-replacing_by_row M t xs n e h =
-    let o = at_place (beaten M t) xs n e h in
+pub replacing_by_row : {P : Type 0} (M : Meaning P) (t : Trial P) (xs : List (Trial P)) (n : ℕ) → position (beaten M t) xs ≡ Some n → replacing M xs t ≡ replacing_row xs n t
+replacing_by_row M t xs n e =
+    let o = at_place (beaten M t) xs n e in
     ap (λ l. judged Replaced l (without_first (beaten M t) xs ++ (t ∷ []))) (sym o.1) ∙ ap (λ l. judged Replaced (take 1 (drop n xs)) (l ++ (t ∷ []))) (sym o.2)
 
 module _ {P : Type 0} (M : Meaning P) (t : Trial P) (a : Members P) (list : List ℕ) (r : Result Offered Denial) (b : Members P) (list' : List ℕ) where
@@ -233,11 +241,11 @@ module _ {P : Type 0} (M : Meaning P) (t : Trial P) (a : Members P) (list : List
   pub row_decided_right : (row : ℕ) → decision M (held_by a) t ≡ Replace row → StepRight (replacing_row (held_by a) row t) a list r b list' → StepRight (judge M (length a.rows.now) (held_by a) t) a list r b list'
   row_decided_right row e right =
       let beaten = first_beaten_from M t (held_by a) row e in
-      decided_right (Replace row) e (subst (λ o. StepRight o a list r b list') (sym (replacing_by_row M t (held_by a) row beaten.0 beaten.1)) right)
+      decided_right (Replace row) e (subst (λ o. StepRight o a list r b list') (sym (replacing_by_row M t (held_by a) row beaten)) right)
 
 -- a row that is decided on holds a member
 pub row_inside : {P : Type 0} (M : Meaning P) (t : Trial P) (a : Members P) (row : ℕ) → decision M (held_by a) t ≡ Replace row → row < a.count
 row_inside M t a row e =
     let b = first_beaten_from M t (held_by a) row e in
-    let o = at_place (beaten M t) (held_by a) row b.0 b.1 in
+    let o = at_place (beaten M t) (held_by a) row b in
     omega (arith, o.0, length-take-le a.count a.rows.now a.within)

@@ -1,5 +1,5 @@
 -- The trials of a block, tried one after the other.
-use Rattle.std.proofs.Common.{◌≡◌, ℕ, suc, ◌+◌, ◌-◌, ◌^◌, ◌<◌, ◌≤◌, true, false, cond, List, [], ◌∷◌, ◌++◌, map, length, Some, None, Err, Result, filter, sym, refl, ap, ◌∙◌, subst, add-zero, zero-add, add-one, add_assoc, length-take, arith}
+use Rattle.std.proofs.Common.{◌≡◌, ℕ, suc, ◌+◌, ◌-◌, ◌^◌, ◌<◌, ◌≤◌, true, false, cond, ltb, List, [], ◌∷◌, ◌++◌, map, length, Some, None, Err, Result, filter, sym, refl, ap, ◌∙◌, subst, add-zero, zero-add, add-one, add_assoc, length-take, arith}
 use Rattle.std.specs.Option.{option_or}
 use Rattle.space.specs.Meaning.{Meaning}
 use Rattle.space.specs.declared.tagged.Trial.{Trial}
@@ -16,11 +16,15 @@ use Rattle.history.specs.Feeding.{all_entered, capped, capped_fed, sum_fed, then
 use Rattle.history.specs.State.{entries, members_after, on_grid}
 use Rattle.history.specs.Step.{Outcome, judge, members_then}
 use Rattle.history.specs.Step.Outcome.{judged, full}
+use Rattle.archive.specs.declared.deciding.Decision.{Decision}
+use Rattle.archive.specs.declared.deciding.Decision.TheVariants.{Displace, Replace, PassOver, Enter}
 use Rattle.archive.specs.declared.members.Members.{Members}
+use Rattle.archive.specs.Deciding.{decision}
 use Rattle.archive.specs.Held.{held_by}
 use Rattle.archive.specs.Feeding.{TriedRight, TakenRight, members_taken, members_tried, trial_answer}
 use Rattle.archive.specs.Offering.{gone_of}
 use Rattle.archive.specs.Summing.{one_fed}
+use Rattle.archive.proofs.Decided.{judge_decided, outcome_by}
 use Rattle.archive.proofs.Stepped.{few_go}
 
 -- two sums with the same parts
@@ -140,6 +144,39 @@ module _ {P : Type 0} (M : Meaning P) where
 
   tally_below : (rows : ℕ) (ms : List (Trial P)) (xs : List (TrialAt P)) → length ms ≤ 4096 → length xs ≤ 255 → FedBelow (2 ^ 64) (tally M rows ms xs)
   tally_below rows ms xs few short = let f = tally_few rows ms xs in (omega (arith, f.0), omega (arith, f.0), omega (arith, f.0), omega (arith, f.1))
+
+  -- nothing of these has entered where nothing of more has
+  none_before : (place : ℕ) (o : Outcome P) (f : Fed) → (then_judged place o f).entered ≡ 0 → f.entered ≡ 0
+  none_before place (judged v gone after) f e = omega arith
+  none_before place full f e = e
+
+  -- a trial that does not enter leaves the members
+  idle_decided : (t : Trial P) (place rows : ℕ) (ms : List (Trial P)) (f : Fed) (d : Decision) → (then_judged place (outcome_by M t rows ms d) f).entered ≡ 0 → members_then ms (outcome_by M t rows ms d) ≡ ms
+  idle_decided t place rows ms f Displace e = absurd (omega arith)
+  idle_decided t place rows ms f (Replace n) e = absurd (omega arith)
+  idle_decided t place rows ms f PassOver e = refl
+  idle_decided t place rows ms f Enter e₀ =
+      (elim (ltb (length ms) rows) as (λ b. (then_judged place (cond b (judged Entered [] (ms ++ (t ∷ []))) full) f).entered ≡ 0 → members_then ms (cond b (judged Entered [] (ms ++ (t ∷ []))) full) ≡ ms) [
+        | true ↦ λ e. absurd (omega arith)
+        | false ↦ λ e. refl
+      ])
+      e₀
+
+  -- and so do trials of which none enters
+  pub tally_idle : (rows : ℕ) (ms : List (Trial P)) (xs : List (TrialAt P)) → (tally M rows ms xs).entered ≡ 0 → members_taken M rows ms xs ≡ ms
+  unfolding tally members_after
+  tally_idle rows ms [] e = refl
+  tally_idle rows ms (x ∷ xs) e₀ =
+      let t = x.read in
+      let o = judge M rows ms t in
+      let ts = filter (on_grid M) (map (λ x. x.read) xs) in
+      let judged_idle : (f : Fed) → (then_judged x.place o f).entered ≡ 0 → members_then ms o ≡ ms = λ f e.
+      subst (λ o. (then_judged x.place o f).entered ≡ 0 → members_then ms o ≡ ms) (sym (judge_decided M t rows ms)) (idle_decided t x.place rows ms f (decision M ms t)) e in
+      (elim (on_grid M t) as (λ b. (cond b (then_judged x.place o (tally M rows (members_then ms o) xs)) (then_denied (OffGrid x.place) (tally M rows ms xs))).entered ≡ 0 → members_after M rows ms (cond b (t ∷ ts) ts) ≡ ms) [
+        | true ↦ λ e. tally_idle rows (members_then ms o) xs (none_before x.place o (tally M rows (members_then ms o) xs) e) ∙ judged_idle (tally M rows (members_then ms o) xs) e
+        | false ↦ λ e. tally_idle rows ms xs e
+      ])
+      e₀
 
   -- one trial is tried
   pub taken_one : (x : TrialAt P) (a b : Members P) (r : Result Offered Denial) → TriedRight M x.read a r b → TakenRight M (x ∷ []) a (one_fed x.place r) b

@@ -2,6 +2,7 @@ pub mod Lent
 pub mod Held
 pub mod Standing
 pub mod Deciding
+pub mod Knowing
 pub mod Offering
 pub mod Auditing
 pub mod Listing

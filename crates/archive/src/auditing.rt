@@ -14,7 +14,8 @@ impl<S: Space> Boxed<'_, S> {
     fn clashes(&self, other: &Trial<S::Point>) -> bool
         ensures { result ≡ clash (S.Space.meaning self.now.space.now) self.now.trial other.now }
     {
-        self.compare(&other.point).is_some()
+        let lie = self.lie(&other.point);
+        lie.over || lie.under
     }
 }
 
@@ -25,11 +26,10 @@ fn first_fault<S: Space>(space: &S, members: &[Trial<S::Point>]) -> Option<(usiz
 {
     let mut found = None;
     'rows: for (i, row) in members.iter().enumerate() {
-        if !space.admits(&row.point) {
+        let Some(boxed) = Boxed::new(space, *row) else {
             found = Some((i, i));
             break 'rows;
-        }
-        let boxed = Boxed::new(space, *row);
+        };
         let after = i + 1;
         for (k, other) in members[after..].iter().enumerate() {
             if boxed.clashes(other) {

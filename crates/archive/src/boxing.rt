@@ -1,67 +1,66 @@
 // The box of a trial, and how it compares with the boxes of others.
-ghost use Rattle.std.specs.Prelude.{◌≡◌};
+ghost use Rattle.std.specs.Prelude.{◌≡◌, true, false, MatchOption};
+ghost use Rattle.space.specs.Boxes.{at_least, six_boxes};
 ghost use Rattle.history.specs.Comparing.{dominates};
-ghost use Rattle.archive.specs.Deciding.{box_order, six_boxes};
+ghost use Rattle.history.specs.State.{on_grid};
+ghost use Rattle.history.specs.Step.{beaten, below};
 
-use space::{Space, Trial};
-use std::array;
-use std::cmp::Ordering;
+use space::{Lie, Space, Trial, six_boxes};
 
 // A trial of a space with its box numbers in six objectives, which are asked once.
 #[derive(Drop)]
 pub(crate) struct Boxed<'a, S: Space> {
     pub space: &'a S,
     pub trial: Trial<S::Point>,
-    numbers: [u32; 6],
+    pub numbers: [u32; 6],
     ghost asked: { numbers ≡ six_boxes (S.Space.meaning space.now) trial.point },
 }
 
 impl<'a, S: Space> Boxed<'a, S> {
-    pub(crate) fn new(space: &'a S, trial: Trial<S::Point>) -> Boxed<'a, S>
-        ensures { (result.space.now ≡ space.now) × (result.trial ≡ trial) }
+    // The trial with its box, if it is on the grid.
+    pub(crate) fn new(space: &'a S, trial: Trial<S::Point>) -> Option<Boxed<'a, S>>
+        ensures { MatchOption result (on_grid (S.Space.meaning space.now) trial ≡ false) (λ b. (on_grid (S.Space.meaning space.now) trial ≡ true) × (b.space.now ≡ space.now) × (b.trial ≡ trial)) }
     {
-        let numbers = array::from_fn(|i| space.box_number(i, &trial.point));
-        Boxed {
+        let numbers = space.boxes(&trial.point)?;
+        Some(Boxed {
             space,
             trial,
             numbers,
-        }
+        })
     }
 
-    // How this trial's box compares with the box of q: the greater one is at least as great in every objective. The numbers of
-    // the other box are asked one by one until nothing is open.
-    pub(crate) fn compare(&self, q: &S::Point) -> Option<Ordering>
-        ensures { result ≡ box_order (S.Space.meaning self.now.space.now) self.now.trial.point q.now }
+    // How this trial's box lies to the box of q.
+    pub(crate) fn lie(&self, q: &S::Point) -> Lie
+        ensures { result ≡ record { over = at_least (S.Space.meaning self.now.space.now) self.now.trial.point q.now; under = at_least (S.Space.meaning self.now.space.now) q.now self.now.trial.point } }
     {
-        // copied, since a struct that is read by index stays in memory whole, and every read of the space with it
-        let space = self.space;
-        let numbers = self.numbers;
-        let mut over = true;
-        let mut under = true;
-        // by number, since a space is asked for an objective by its number
-        for i in 0..space.objectives() {
-            let theirs = space.box_number(i, q);
-            over &= theirs <= numbers[i];
-            under &= numbers[i] <= theirs;
-            if !over && !under {
-                return None;
-            }
-        }
-        match (over, under) {
-            (true, true) => Some(Ordering::Equal),
-            (true, false) => Some(Ordering::Greater),
-            (false, true) => Some(Ordering::Less),
-            (false, false) => None,
-        }
+        Lie::of(&self.numbers, &six_boxes(self.space, q))
     }
 
     // Whether this trial dominates q. The crate of what stands has the question too: the project keeps apart from the archive what an
     // archive is held against.
-    pub(crate) fn dominates(&self, q: &S::Point) -> bool
+    fn dominates(&self, q: &S::Point) -> bool
         ensures { result ≡ dominates (S.Space.meaning self.now.space.now) self.now.trial.point q.now }
     {
-        // copied, since a struct that is pointed into stays in memory whole
-        let p = self.trial.point;
-        self.space.no_worse(&p, q) && !self.space.no_worse(q, &p)
+        let p = &self.trial.point;
+        self.space.no_worse(p, q) && !self.space.no_worse(q, p)
+    }
+
+    // Whether this trial's box dominates the member's.
+    pub(crate) fn tops(&self, member: &Trial<S::Point>) -> bool
+        ensures { result ≡ below (S.Space.meaning self.now.space.now) self.now.trial member.now }
+    {
+        let lie = self.lie(&member.point);
+        lie.over && !lie.under
+    }
+
+    // Whether the member has this trial's box, and the trial dominates it. The boxes are asked last: they cost more.
+    pub(crate) fn beats(&self, member: &Trial<S::Point>) -> bool
+        ensures { result ≡ beaten (S.Space.meaning self.now.space.now) self.now.trial member.now }
+    {
+        if !self.dominates(&member.point) {
+            return false;
+        }
+        let lie = self.lie(&member.point);
+        lie.over && lie.under
     }
 }

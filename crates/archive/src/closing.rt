@@ -5,7 +5,6 @@ ghost use Rattle.history.specs.Step.{below};
 ghost use Rattle.archive.specs.Offering.{Closed};
 
 use crate::boxing::Boxed;
-use crate::deciding::Class;
 use space::{Space, Trial};
 
 // Copies a row to another place, its point and its tag together.
@@ -37,7 +36,7 @@ impl<S: Space> Boxed<'_, S> {
         let mut went = 0;
         // by index, since what stays is written to the front of the rows that are still read
         for i in 0..members.len() {
-            if let Class::Below = self.classify(&members[i]) {
+            if self.tops(&members[i]) {
                 note(gone, went, members[i].tag);
                 went += 1;
             } else {

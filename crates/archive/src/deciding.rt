@@ -1,10 +1,12 @@
 // What is to be done with a trial.
 ghost use Rattle.std.specs.Prelude.{◌≡◌};
-ghost use Rattle.archive.specs.Deciding.{class, decision, joined_by};
+ghost use Rattle.std.specs.List.{position};
+ghost use Rattle.space.specs.Looking.{look_of};
+ghost use Rattle.history.specs.Step.{beaten};
+ghost use Rattle.archive.specs.Deciding.{decision, first_step};
 
 use crate::boxing::Boxed;
-use space::{Space, Trial};
-use std::cmp::Ordering;
+use space::{Look, Space, Trial};
 
 // The first of the four steps of an offer that applies.
 #[derive(Clone, Copy)]
@@ -19,62 +21,39 @@ pub(crate) enum Decision {
     Enter,
 }
 
-// What one member is to the trial, by the first of these that applies.
-#[derive(Clone, Copy)]
-pub(crate) enum Class {
-    // the trial's box dominates its box
-    Below,
-    // it has the trial's box, and the trial dominates it
-    Beaten,
-    // its box equals the trial's or dominates it
-    Shuts,
-    // the boxes are apart
-    Apart,
-}
-
-// The decision over some members and one more, in the row after them, where no box among them is dominated.
-fn join(former: Decision, added: Class, row: usize) -> Decision
-    ensures { result ≡ joined_by former added row }
+// The first step that applies.
+fn first_step(below: bool, beaten: Option<usize>, shut: bool) -> Decision
+    ensures { result ≡ first_step below beaten shut }
 {
-    match added {
-        Class::Below => Decision::Displace,
-        Class::Beaten => match former {
-            Decision::Replace(_) => former,
-            _ => Decision::Replace(row),
-        },
-        Class::Shuts => match former {
-            Decision::Enter => Decision::PassOver,
-            _ => former,
-        },
-        Class::Apart => former,
+    if below {
+        return Decision::Displace;
+    }
+    match beaten {
+        Some(row) => Decision::Replace(row),
+        None if shut => Decision::PassOver,
+        None => Decision::Enter,
     }
 }
 
 impl<S: Space> Boxed<'_, S> {
-    // What this member is to the trial.
-    pub(crate) fn classify(&self, member: &Trial<S::Point>) -> Class
-        ensures { result ≡ class (S.Space.meaning self.now.space.now) self.now.trial member.now }
+    // The first row whose member the trial beats.
+    fn first_beaten(&self, members: &[Trial<S::Point>]) -> Option<usize>
+        ensures { result ≡ position (beaten (S.Space.meaning self.now.space.now) self.now.trial) members.now }
     {
-        match self.compare(&member.point) {
-            None => Class::Apart,
-            Some(Ordering::Greater) => Class::Below,
-            Some(Ordering::Equal) if self.dominates(&member.point) => Class::Beaten,
-            Some(_) => Class::Shuts,
-        }
+        members.iter().position(|member| self.beats(member))
     }
 
-    // What is to be done with the trial, by one pass over the members. It ends at the first whose box is dominated, since all
-    // the others are then looked at again.
-    pub(crate) fn decide(&self, members: &[Trial<S::Point>]) -> Decision
+    // What is to be done with the trial, once it was looked how its box lies to those of the members. Only a member of its own box can be
+    // beaten.
+    pub(crate) fn decide(&self, members: &[Trial<S::Point>], look: Look) -> Decision
+        requires { look ≡ look_of (S.Space.meaning self.now.space.now) self.now.trial.point members.now }
         ensures { result ≡ decision (S.Space.meaning self.now.space.now) members.now self.now.trial }
     {
-        let mut decision = Decision::Enter;
-        for (i, member) in members.iter().enumerate() {
-            decision = join(decision, self.classify(member), i);
-            if let Decision::Displace = decision {
-                return decision;
-            }
-        }
-        decision
+        let beaten = if look.same {
+            self.first_beaten(members)
+        } else {
+            None
+        };
+        first_step(look.below, beaten, look.shut)
     }
 }

@@ -4,10 +4,13 @@ ghost use Rattle.space.specs.Recording.{read_point};
 ghost use Rattle.log_block.specs.Reading.{left_to_read, seen_at};
 ghost use Rattle.history.specs.BlockTrials.{trials_of};
 ghost use Rattle.archive.specs.Feeding.{FeedRight, TakenRight, TriedRight};
+ghost use Rattle.archive.specs.Held.{held_by};
+ghost use Rattle.archive.specs.Knowing.{Knows};
 ghost use Rattle.archive.specs.Lent.{lending};
 
 use crate::boxing::Boxed;
 use crate::holding::Archive;
+use crate::knowing::Known;
 use crate::members::Members;
 use crate::summing::one_fed;
 use history::{Denial, Fed, FeedFault, Offered};
@@ -18,22 +21,27 @@ use space::{Recorded, Space, Trial, read_or_blank};
 fn try_trial<S: Space>(
     space: &S,
     trial: Trial<S::Point>,
+    known: &Known,
     members: &mut Members<'_, S::Point>,
 ) -> Result<Offered, Denial>
+    requires { Knows (S.Space.meaning space.now) (held_by members.old) known.now }
     ensures { TriedRight (S.Space.meaning space.now) trial members.old result members.new }
 {
-    if !space.admits(&trial.point) {
+    let Some(boxed) = Boxed::new(space, trial) else {
         return Err(Denial::OffGrid);
-    }
-    Boxed::new(space, trial).step(members, &mut [])
+    };
+    let look = known.look(&boxed, members.as_slice());
+    boxed.step(members, look, &mut [])
 }
 
 // A record of a block: a note is skipped, and a trial is tried.
 fn take_record<S: Recorded>(
     space: &S,
     placed: Placed<'_>,
+    known: &Known,
     members: &mut Members<'_, S::Point>,
 ) -> Fed
+    requires { Knows (S.Space.meaning space.now) (held_by members.old) known.now }
     ensures { TakenRight (S.Space.meaning space.now) (trials_of (read_point (S.Recorded.recording space.now)) (seen_at placed.entry ∷ [])) members.old result members.new }
 {
     match placed.record {
@@ -42,7 +50,7 @@ fn take_record<S: Recorded>(
                 point: read_or_blank(space, point),
                 tag,
             };
-            one_fed(placed.place, try_trial(space, trial, members))
+            one_fed(placed.place, try_trial(space, trial, known, members))
         }
         Record::Note(_) => Fed::default(),
     }
@@ -58,9 +66,14 @@ fn take_records<S: Recorded>(
     requires few { length (left_to_read records) ≤ 255 }
     ensures { TakenRight (S.Space.meaning space.now) (trials_of (read_point (S.Recorded.recording space.now)) (left_to_read records.entry)) members.old result members.new }
 {
+    let mut known = Known::of(space, members.as_slice());
     let mut fed = Fed::default();
     for placed in records {
-        fed = fed.saturating_add(take_record(space, placed, members));
+        let came = take_record(space, placed, &known, members);
+        if came.entered > 0 {
+            known = Known::of(space, members.as_slice());
+        }
+        fed = fed.saturating_add(came);
     }
     fed
 }

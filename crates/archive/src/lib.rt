@@ -9,6 +9,7 @@ mod closing;
 mod deciding;
 mod feeding;
 mod holding;
+mod knowing;
 mod listing;
 mod making;
 mod members;

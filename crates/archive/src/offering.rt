@@ -1,5 +1,6 @@
 // Offer: a trial is judged against the members.
 ghost use Rattle.std.specs.Prelude.{◌≡◌, ℕ, ◌<◌, true, List, length};
+ghost use Rattle.space.specs.Looking.{look_of};
 ghost use Rattle.history.specs.Lists.{any};
 ghost use Rattle.history.specs.Step.{below, displacing, entering, judge};
 ghost use Rattle.archive.specs.Held.{held_by};
@@ -12,7 +13,7 @@ use crate::deciding::Decision;
 use crate::holding::Archive;
 use crate::members::Members;
 use history::{Denial, Offered, Verdict};
-use space::{Space, Trial};
+use space::{Look, Space, Trial};
 
 impl<P: Copy> Members<'_, P> {
     // The member in one row goes, those after it close up, and the trial enters after them.
@@ -61,15 +62,17 @@ impl<S: Space> Boxed<'_, S> {
         }
     }
 
-    // The first of the four steps that applies, for a trial on the grid.
+    // The first of the four steps that applies, for a trial on the grid, once it was looked how its box lies to those of the members.
     pub(crate) fn step(
         &self,
         members: &mut Members<'_, S::Point>,
+        look: Look,
         displaced: &mut [u32],
     ) -> Result<Offered, Denial>
+        requires { look ≡ look_of (S.Space.meaning self.now.space.now) self.now.trial.point (held_by members.old) }
         ensures { StepRight (judge (S.Space.meaning self.now.space.now) (length members.old.rows.now) (held_by members.old) self.now.trial) members.old displaced.old result members.new displaced.new }
     {
-        match self.decide(members.as_slice()) {
+        match self.decide(members.as_slice(), look) {
             Decision::Displace => Ok(self.displace(members, displaced)),
             Decision::Replace(row) => Ok(members.replace(row, self.trial, displaced)),
             Decision::PassOver => Ok(Offered {
@@ -99,14 +102,16 @@ impl<S: Space> Archive<S> {
         if displaced.len() < self.rows {
             return Err(Denial::ShortList);
         }
-        if !self.space.admits(&trial.point) {
-            return Err(Denial::OffGrid);
-        }
         let mut members = Members {
             rows,
             count: self.count,
         };
-        let answer = Boxed::new(&self.space, trial).step(&mut members, displaced);
+        let space = &self.space;
+        let Some(boxed) = Boxed::new(space, trial) else {
+            return Err(Denial::OffGrid);
+        };
+        let look = space.look(&trial.point, members.as_slice());
+        let answer = boxed.step(&mut members, look, displaced);
         self.count = members.count;
         answer
     }

@@ -1,4 +1,4 @@
-use Rattle.std.proofs.Common.{sym, refl, ◌∙◌, rules}
+use Rattle.std.proofs.Common.{refl, rules}
 use Rattle.history.specs.declared.denials.Denial.TheVariants.{StrangeRows, ShortList, OffGrid}
 use Rattle.archive.specs.Lent.{lending}
 use Rattle.archive.proofs.Offers.{strange_rows, short_list, off_grid, passes, denied_right, judged_right}
@@ -26,15 +26,15 @@ returns-then-displaced-self g c =
       right = denied_right M t a (g.met.S.Space.lawful self.space) ShortList (short_list M t a c.if-rows-self.false c.if-displaced-self.true);
     }
 
-pub returns-then-not-admits : goal.returns-then-not-admits
-returns-then-not-admits g c =
+pub returns-in_default : goal.returns-in_default
+returns-in_default g c =
     let self = c.args.self.now in
     let M = g.S.Space.meaning self.space in
     let t = c.args.trial in
     let a = lending self c.args.rows.now c.args.displaced.now in
     record {
       space = refl;
-      right = denied_right M t a (g.met.S.Space.lawful self.space) OffGrid (off_grid M t a c.if-rows-self.false c.if-displaced-self.false (sym c.admits.ensures ∙ c.if-not-admits.true));
+      right = denied_right M t a (g.met.S.Space.lawful self.space) OffGrid (off_grid M t a c.if-rows-self.false c.if-displaced-self.false c.in_default.ensures);
     }
 
 pub returns : goal.returns
@@ -43,8 +43,8 @@ returns g c =
     let M = g.S.Space.meaning self.space in
     let t = c.args.trial in
     let a = lending self c.args.rows.now c.args.displaced.now in
-    let passed = passes M t a c.if-rows-self.false c.if-displaced-self.false (sym c.admits.ensures ∙ c.if-not-admits.false) in
-    let stepped = rw (c.new.ensures.0, c.new.ensures.1) at c.step-answer.ensures in
+    let passed = passes M t a c.if-rows-self.false c.if-displaced-self.false c.in-Some.ensures.0 in
+    let stepped = rw (c.in-Some.ensures.1, c.in-Some.ensures.2) at c.step-answer.ensures in
     record {
       space = refl;
       right = judged_right M t a (g.met.S.Space.lawful self.space) c.step-answer.result _ c.step-answer.new.members _ c.step-answer.new.displaced (search rules) refl refl c.if-rows-self.false c.if-displaced-self.false passed stepped;
