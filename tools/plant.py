@@ -39,7 +39,7 @@ def function_at(lines, number):
         found = re.match(r"\s*(?:pub(?:\(.*?\))? )?fn (\w+)", line)
         if found:
             return found.group(1)
-        if line and not line[0].isspace() and line[0] not in "})/":
+        if line and not line[0].isspace() and line[0] not in "{})/":
             return None
     return None
 
