@@ -9,7 +9,7 @@ use Rattle.beside.specs.Pair.{fit, joined, first_alone, pair_meaning}
 
 module _ {P Q : Type 0} (M : Meaning P) (N : Meaning Q) (LM : Lawful M) (LN : Lawful N) where
   -- the box numbers of an admitted pair, by the space that the objective is of
-  box_of : (p : P × Q) → (joined M N).admits p ≡ true → (i : ℕ) → (joined M N).box i p ≡ cond (nat_lt i M.objectives) (M.box i p.0) (N.box (i - M.objectives) p.1)
+  pub box_of : (p : P × Q) → (joined M N).admits p ≡ true → (i : ℕ) → (joined M N).box i p ≡ cond (nat_lt i M.objectives) (M.box i p.0) (N.box (i - M.objectives) p.1)
   box_of p a i = cond-true (M.admits p.0 && N.admits p.1) _ _ a
 
   -- boxes at least as great in every objective of the pair are so in the first space

@@ -1,3 +1,4 @@
 pub mod Pair
 pub mod Laws
 pub mod Recorded
+pub mod Rows

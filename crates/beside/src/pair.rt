@@ -1,13 +1,14 @@
 // Two spaces as one: what the pair means, and its bytes.
-ghost use Rattle.std.specs.Prelude.{◌≡◌, ◌-◌, ◌*◌, ◌<◌, ◌≤◌, length, map, slice_index, take, drop, IfOk, if◌then◌else◌, nat_lt, Ok, Err};
+ghost use Rattle.std.specs.Prelude.{◌≡◌, ◌*◌, ◌<◌, ◌≤◌, true, length, map, take, drop, IfOk, if◌then◌else◌, Ok, Err};
 ghost use Rattle.std.specs.List.{range_with_len};
 ghost use Rattle.space.specs.Recording.{FourEach, WritableIfAdmitted, blank_point, read_point};
-ghost use Rattle.beside.specs.Pair.{boxes_joined, fit, joined, meaning_of, recording_of};
+ghost use Rattle.space.specs.Spans.{Alike, SpansOf, spans_from};
+ghost use Rattle.beside.specs.Pair.{boxes_joined, fit, joined, joined_bytes, meaning_of, recording_of};
+ghost use Rattle.beside.specs.Rows.{row_joined};
 ghost use Rattle.beside.specs.Laws.{lawful_pair};
 ghost use Rattle.beside.specs.Recorded.{faithful_pair};
 
-use space::{Recorded, Space, TooMany, Unread, Unwritten, blank, read_or_blank};
-use std::array;
+use space::{Recorded, Space, Spans, TooMany, Unread, Unwritten, blank, read_or_blank};
 
 // Two spaces, the first one's objectives in front.
 #[derive(Clone, Copy, Drop)]
@@ -50,21 +51,14 @@ impl<A: Space, B: Space> Beside<A, B> {
 
 // Two rows of numbers as one: the front of the first, and then the second.
 fn numbers_joined(front: usize, first: &[u32; 6], second: &[u32; 6]) -> [u32; 6]
-    ensures { result ≡ map (λ i. if nat_lt i front then slice_index first.now i else slice_index second.now (i - front)) (range_with_len 0 6) }
+    ensures { result ≡ map (row_joined front first.now second.now) (range_with_len 0 6) }
 {
-    array::from_fn(|i| number_joined(front, first, second, i))
-}
-
-// The number at place i of both rows.
-fn number_joined(front: usize, first: &[u32; 6], second: &[u32; 6], i: usize) -> u32
-    requires { i < 6 }
-    ensures { result ≡ (if nat_lt i front then slice_index first.now i else slice_index second.now (i - front)) }
-{
-    if i < front {
-        first[i]
-    } else {
-        second[i - front]
+    let mut joined = *first;
+    // by place: of what is written through a zipped `iter_mut` a proof knows nothing
+    for i in front..6 {
+        joined[i] = second[i - front];
     }
+    joined
 }
 
 impl<A: Space, B: Space> Space for Beside<A, B> {
@@ -156,6 +150,19 @@ impl<A: Recorded, B: Recorded> Beside<A, B> {
         )
     }
 
+    // Writes the spans of both points, those of the second behind those of the first.
+    fn both_spans(&self, p: &(A::Point, B::Point), at: usize, out: &mut Spans) -> bool
+        requires { (fit (A.Space.meaning self.now.first) (B.Space.meaning self.now.second) ≡ true) × (at ≤ 6) }
+        ensures told { result ≡ true → SpansOf (joined (A.Space.meaning self.now.first) (B.Space.meaning self.now.second)) (joined_bytes (A.Recorded.recording self.now.first) (B.Recorded.recording self.now.second)) p.now (spans_from at out.new) }
+        ensures before { Alike at out.new.most out.old.most × Alike at out.new.least out.old.least }
+    {
+        let behind = at + self.first.objectives();
+        if !self.first.spans(&p.0, at, out) {
+            return false;
+        }
+        self.second.spans(&p.1, behind, out)
+    }
+
     // Both points' bytes, one after the other; where the two spaces do not fit, the first one's alone.
     fn write_both(&self, p: &(A::Point, B::Point), out: &mut [u8]) -> Result<(), Unwritten>
         requires { (length out.old ≡ (recording_of A.Space.meaning B.Space.meaning A.Recorded.recording B.Recorded.recording self.now).width) × (FourEach (meaning_of A.Space.meaning B.Space.meaning self.now) (recording_of A.Space.meaning B.Space.meaning A.Recorded.recording B.Recorded.recording self.now)) }
@@ -198,6 +205,17 @@ impl<A: Recorded, B: Recorded> Recorded for Beside<A, B> {
             self.write_both(p, out)
         } else {
             Err(Unwritten)
+        }
+    }
+
+    // Where each point is on its own grid, which its spans tell, the pair is on its grid.
+    fn spans(&self, p: &(A::Point, B::Point), at: usize, out: &mut Spans) -> bool {
+        // asked only for what it promises
+        let _ = self.width();
+        if self.fits() && at <= 6 {
+            self.both_spans(p, at, out)
+        } else {
+            false
         }
     }
 }

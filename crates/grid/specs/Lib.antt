@@ -10,3 +10,4 @@ pub mod Tests
 pub mod Recorded
 pub mod Whole
 pub mod Frames
+pub mod Seeing

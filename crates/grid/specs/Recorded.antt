@@ -1,5 +1,5 @@
 -- The bytes of a grid's points keep the laws of a recording.
-use Rattle.std.proofs.Common.{◌≡◌, ℕ, zero, suc, ◌+◌, ◌*◌, ◌/◌, ◌%◌, ◌<◌, ◌≤◌, true, ◌&&◌, ◌||◌, eqb, ltb, List, [], ◌∷◌, length, get_or, sym, refl, ap, ◌∙◌, ⊎_elim, add-zero, arith}
+use Rattle.std.proofs.Common.{◌≡◌, ℕ, zero, suc, ◌+◌, ◌*◌, ◌/◌, ◌%◌, ◌^◌, ◌<◌, ◌≤◌, true, ◌&&◌, ◌||◌, eqb, ltb, List, [], ◌∷◌, length, get_or, sym, refl, ap, ◌∙◌, ⊎_elim, add-zero, arith}
 use Rattle.std.proofs.lemmas.List.FromFn.{length-map-range_with_len, get_or-map-range_with_len, fill_by_all}
 use Rattle.std.proofs.lemmas.List.{get_or_past}
 use Rattle.std.proofs.ByRecursion.{All-get_or}
@@ -19,6 +19,21 @@ quarter bs i (suc zero) l = refl
 quarter bs i (suc (suc zero)) l = refl
 quarter bs i (suc (suc (suc zero))) l = refl
 quarter bs i (suc (suc (suc (suc j)))) l = absurd (omega arith)
+
+-- four bytes say a number of 32 bits
+pub number_small : (bs : List ℕ) → Bytes bs → (i : ℕ) → 4 * i + 4 ≤ length bs → number_at bs i < 2 ^ 32
+number_small bs small i long =
+    let byte : (k : ℕ) → k < 4 → get_or bs (4 * i + k) 0 < 256 = λ k h. All-get_or (λ b. b < 256) bs (4 * i + k) 0 (omega arith) small in
+    let first : get_or bs (4 * i) 0 < 256 = All-get_or (λ b. b < 256) bs (4 * i) 0 (omega arith) small in
+    omega (arith, first, byte 1 (omega arith), byte 2 (omega arith), byte 3 (omega arith))
+
+-- no bytes say zero
+pub number_none : (bs : List ℕ) (i : ℕ) → length bs ≤ 4 * i → number_at bs i ≡ 0
+number_none bs i past = omega (arith, get_or_past bs (4 * i) 0 past, get_or_past bs (4 * i + 1) 0 (omega arith), get_or_past bs (4 * i + 2) 0 (omega arith), get_or_past bs (4 * i + 3) 0 (omega arith))
+
+-- the figure that is read at a place
+pub figure_read : {F : Type 0} (B : Bits F) (bs : List ℕ) (i : ℕ) → i < 6 → figure_at B (figures_read B bs) i ≡ B.from (number_at bs i)
+figure_read B bs i l = get_or-map-range_with_len (λ k. B.from (number_at bs k)) 0 6 i i B.zero l (omega arith)
 
 module _ {F : Type 0} (B : Bits F) (exact : Exact B) (m : ℕ) (few : m ≤ 6) where
   -- byte j of place i, as it is written
@@ -40,10 +55,7 @@ module _ {F : Type 0} (B : Bits F) (exact : Exact B) (m : ℕ) (few : m ≤ 6) w
 
   -- past the last objective there are no bytes
   number_past : (p : List F) (i : ℕ) → m ≤ i → number_at ((grid_recording B m).writes p) i ≡ 0
-  number_past p i l =
-      let bs = (grid_recording B m).writes p in
-      let n = length-map-range_with_len (byte_at B p) 0 (4 * m) in
-      omega (arith, get_or_past bs (4 * i) 0 (omega (arith, n)), get_or_past bs (4 * i + 1) 0 (omega (arith, n)), get_or_past bs (4 * i + 2) 0 (omega (arith, n)), get_or_past bs (4 * i + 3) 0 (omega (arith, n)))
+  number_past p i l = number_none ((grid_recording B m).writes p) i (omega (arith, length-map-range_with_len (byte_at B p) 0 (4 * m)))
 
   -- the figure that is read back at a place
   figure_written : (p : List F) → sextuple B m p ≡ true → (i : ℕ) → i < 6 → B.from (number_at ((grid_recording B m).writes p) i) ≡ figure_at B p i
@@ -61,8 +73,7 @@ module _ {F : Type 0} (B : Bits F) (exact : Exact B) (m : ℕ) (few : m ≤ 6) w
   read_at bs small i j l long s =
       let byte : (k : ℕ) → k < 4 → get_or bs (4 * i + k) 0 < 256 = λ k h. All-get_or (λ b. b < 256) bs (4 * i + k) 0 (omega arith) small in
       let first : get_or bs (4 * i) 0 < 256 = All-get_or (λ b. b < 256) bs (4 * i) 0 (omega arith) small in
-      let here : figure_at B (figures_read B bs) i ≡ B.from (number_at bs i) = get_or-map-range_with_len (λ k. B.from (number_at bs k)) 0 6 i i B.zero l (omega arith) in
-      let number = ap B.to here ∙ exact.number_back (number_at bs i) (omega (arith, first, byte 1 (omega arith), byte 2 (omega arith), byte 3 (omega arith))) in
+      let number = ap B.to (figure_read B bs i l) ∙ exact.number_back (number_at bs i) (number_small bs small i long) in
       let four = ap four_bytes number ∙ four_again (get_or bs (4 * i) 0) (get_or bs (4 * i + 1) 0) (get_or bs (4 * i + 2) 0) (get_or bs (4 * i + 3) 0) first (byte 1 (omega arith)) (byte 2 (omega arith)) (byte 3 (omega arith)) in
       ap (λ xs. get_or xs j 0) four ∙ quarter bs i j s
 

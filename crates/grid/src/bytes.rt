@@ -7,37 +7,14 @@ ghost use Rattle.grid.specs.Space.{figure_at};
 
 use crate::compare::figure_at;
 use crate::figure::Figure;
+use space::number_at;
 use std::array;
-
-// The byte at place k; 0 past the end.
-fn byte(bytes: &[u8], k: usize) -> u8
-    ensures { result ≡ slice_index bytes.now k }
-{
-    bytes.get(k).copied().unwrap_or(0)
-}
-
-// The number that the four bytes of place i say. Most points have less than six figures: so it is asked first whether there is a byte.
-fn number(bytes: &[u8], i: usize) -> u32
-    requires { i < 6 }
-    ensures { result ≡ number_at bytes.now i }
-{
-    let at = 4 * i;
-    if bytes.len() <= at {
-        return 0;
-    }
-    u32::from_be_bytes([
-        byte(bytes, at),
-        byte(bytes, at + 1),
-        byte(bytes, at + 2),
-        byte(bytes, at + 3),
-    ])
-}
 
 // The six figures that the bytes say; bytes past the end count as 0.
 pub fn read_figures<F: Figure>(bytes: &[u8]) -> [F; 6]
     ensures { result ≡ figures_read F.Figure.bits bytes.now }
 {
-    array::from_fn(|i| F::from_bits(number(bytes, i)))
+    array::from_fn(|i| F::from_bits(number_at(bytes, i)))
 }
 
 // Byte k of the figures' bytes.

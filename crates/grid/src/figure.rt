@@ -1,6 +1,7 @@
 // A figure: a number of 32 bits, signed or not.
-ghost use Rattle.std.specs.Prelude.{◌≡◌, true};
+ghost use Rattle.std.specs.Prelude.{◌≡◌, ⊤, true, MatchOption};
 ghost use Rattle.grid.specs.Bits.{Bits, Exact};
+ghost use Rattle.grid.specs.Ranges.{NumbersPass, between};
 
 pub trait Figure: Copy {
     ghost bits: { Bits Self };
@@ -20,6 +21,10 @@ pub trait Figure: Copy {
     // Whether this number is at most the other.
     fn is_at_most(self, other: Self) -> bool
         ensures { result ≡ bits.at_most self other };
+
+    // The figures from the one to the other as a range of signed numbers, which are those that their bits say: none where it is not told.
+    fn span(from: Self, to: Self) -> Option<(i32, i32)>
+        ensures { MatchOption result ⊤ (NumbersPass bits (between bits (from, to))) };
 
     ghost exact: { Exact bits };
 }

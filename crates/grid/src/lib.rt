@@ -8,7 +8,9 @@ mod compare;
 mod figure;
 mod frame;
 mod make;
+mod narrow;
 mod signed;
+mod spans;
 mod unsigned;
 mod whole;
 

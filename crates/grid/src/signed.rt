@@ -24,4 +24,8 @@ impl Figure for i32 {
     fn is_at_most(self, other: i32) -> bool {
         self <= other
     }
+
+    fn span(from: i32, to: i32) -> Option<(i32, i32)> {
+        Some((from, to))
+    }
 }

@@ -24,4 +24,13 @@ impl Figure for u32 {
     fn is_at_most(self, other: u32) -> bool {
         other >= self
     }
+
+    // None where the greatest is no signed number, or the range is empty: no grid of the house comes to either.
+    fn span(from: u32, to: u32) -> Option<(i32, i32)> {
+        if from <= to && to <= i32::MAX as u32 {
+            Some((from as i32, to as i32))
+        } else {
+            None
+        }
+    }
 }

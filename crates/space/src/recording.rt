@@ -1,8 +1,10 @@
 // A space whose points are also bytes: exactly four an objective, the highest byte of each figure first.
 ghost use Rattle.std.specs.Prelude.{◌≡◌, ◌-◌, ◌≤◌, true, drop, length, replicate, take};
 ghost use Rattle.space.specs.Recording.{Recording, Faithful, FourEach, WritableIfAdmitted, as_wide, blank_point, read_answer, read_point, write_answer, written_over};
+ghost use Rattle.space.specs.Spans.{Alike, SpansOf, spans_from};
 
 use crate::meaning::Space;
+use crate::spans::Spans;
 
 // The bytes are not as many as a point takes; the point is the one that zero bytes give.
 #[derive(Clone, Copy)]
@@ -36,6 +38,20 @@ pub trait Recorded: Space {
         ensures after { out.new ≡ written_over (recording self.now) p.now out.old }
         ensures four_each { FourEach (Self.Space.meaning self.now) (recording self.now) }
         ensures writable { as_wide (recording self.now) out.old ≡ true → WritableIfAdmitted (Self.Space.meaning self.now) (recording self.now) p.now };
+
+    // Writes the spans of p's box at the places from `at` on, if p is on the grid, the space tells spans and there are places for them. Says
+    // whether it did: what stands at those places is no answer else. Of a space that does not tell spans a feed asks for points and boxes:
+    // that takes longer, and comes to the same. They are written where they stay, since rows that are copied right after they were written
+    // number by number make the processor wait.
+    fn spans(&self, p: &Self::Point, at: usize, out: &mut Spans) -> bool
+        ensures told { result ≡ true → SpansOf (Self.Space.meaning self.now) (recording self.now) p.now (spans_from at out.new) }
+        ensures before { Alike at out.new.most out.old.most × Alike at out.new.least out.old.least }
+        ensures four_each { FourEach (Self.Space.meaning self.now) (recording self.now) }
+    {
+        // asked only for what it promises
+        let _ = self.width();
+        false
+    }
 
     ghost faithful: { (s : Self) → Faithful (recording s) };
 }

@@ -7,8 +7,9 @@ ghost use Rattle.grid.specs.Whole.{meaning_by, recording_by};
 use crate::axis::Axis;
 use crate::bytes::{read_figures, write_figures};
 use crate::figure::{Figure, zero};
+use crate::spans::spans;
 use crate::whole::Grid;
-use space::{Recorded, Space, Unread, Unwritten};
+use space::{Recorded, Space, Spans, Unread, Unwritten};
 
 impl<A: Axis> Grid<A> {
     // The point that zero bytes give.
@@ -54,5 +55,9 @@ impl<A: Axis> Recorded for Grid<A> {
         }
         self.fill(p, out);
         Ok(())
+    }
+
+    fn spans(&self, p: &[A::Figure; 6], at: usize, out: &mut Spans) -> bool {
+        spans(self.rules(), p, at, out)
     }
 }
