@@ -2,10 +2,10 @@
 // of them at once; every space has them from the six, and may answer them faster.
 ghost use Rattle.std.specs.Prelude.{◌≡◌};
 ghost use Rattle.space.specs.Boxes.{boxes_on, six_boxes};
-ghost use Rattle.space.specs.Looking.{look_of};
+ghost use Rattle.space.specs.Looking.{look_on};
 ghost use Rattle.space.specs.Meaning.{Meaning, Lawful};
 
-use crate::looking::{Lie, Look};
+use crate::looking::{Lie, Look, Looking};
 use crate::tagged::Trial;
 use std::array;
 
@@ -49,17 +49,17 @@ pub trait Space {
         }
     }
 
-    // How p's box lies to those of these trials.
-    fn look(&self, p: &Self::Point, trials: &[Trial<Self::Point>]) -> Look
-        ensures { result ≡ look_of (meaning self.now) p.now trials.now }
+    // How p's box lies to those of these trials, if p is on the grid.
+    fn look(&self, p: &Self::Point, trials: &[Trial<Self::Point>]) -> Option<Look>
+        ensures { result ≡ look_on (meaning self.now) p.now trials.now }
     {
-        let mine = self.boxes(p).unwrap_or([0; 6]);
-        let mut look = Look::default();
-        for trial in trials {
+        let mine = self.boxes(p)?;
+        let mut looking = Looking::default();
+        for (k, trial) in trials.iter().enumerate() {
             let theirs = self.boxes(&trial.point).unwrap_or([0; 6]);
-            look = look.with(Lie::of(&mine, &theirs));
+            looking = looking.with(k, Lie::of(&mine, &theirs));
         }
-        look
+        Some(looking.end())
     }
 
     ghost lawful: { (s : Self) → Lawful (meaning s) };

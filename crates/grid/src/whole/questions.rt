@@ -12,7 +12,7 @@ use space::{Look, Space, Trial};
 
 impl<A: Axis> Grid<A> {
     // The rules in use, one an objective.
-    fn rules(&self) -> &[A]
+    pub(super) fn rules(&self) -> &[A]
         ensures { result.now ≡ take self.now.objectives self.now.axes }
     {
         let (rules, _) = self.axes.split_at(self.objectives);
@@ -58,7 +58,7 @@ impl<A: Axis> Space for Grid<A> {
         boxes(self.rules(), p)
     }
 
-    fn look(&self, p: &[A::Figure; 6], trials: &[Trial<[A::Figure; 6]>]) -> Look {
+    fn look(&self, p: &[A::Figure; 6], trials: &[Trial<[A::Figure; 6]>]) -> Option<Look> {
         look(self.rules(), p, trials)
     }
 }

@@ -6,7 +6,7 @@ pub loop-i-init : goal.loop-i-init
 loop-i-init g c = filled_none _ _ _ _ (search rules) (search rules)
 
 pub loop-i-preserved : goal.loop-i-preserved
-loop-i-preserved g c = filled_more g.A.Figure.Figure.bits _ c.loop-i.from c.loop-i.to c.loop-i.i c.least_at.result.0 c.least_at.result.1 c.loop-i-test.true c.least_at.ensures c.loop-i.invariant
+loop-i-preserved g c = filled_more _ _ c.loop-i.from c.loop-i.to c.loop-i.i c.least_at.result.0 c.least_at.result.1 c.loop-i-test.true c.least_at.ensures c.loop-i.invariant
 
 pub returns : goal.returns
 returns g c =

@@ -1,6 +1,6 @@
-use Rattle.std.proofs.Common.{map}
+use Rattle.std.proofs.Common.{◌≡◌, map}
 use Rattle.std.specs.Prelude.{slice_index}
-use Rattle.grid.specs.Ranges.{box_at_most}
+use Rattle.grid.specs.Ranges.{between, box_at_most}
 use Rattle.grid.specs.Space.{line_at}
 use Rattle.grid.proofs.Framing.{Filled}
 use Rattle.grid.proofs.frame.fill_most.Given as goal
@@ -8,4 +8,5 @@ use Rattle.grid.proofs.frame.fill_most.Given as goal
 -- the places so far are filled
 abbrev pub invariant-loop-i : goal.invariant-loop-i
 invariant-loop-i g l =
-    Filled g.A.Figure.Figure.bits (λ k. box_at_most (line_at g.A.Figure.Figure.bits (map g.A.Axis.line l.axes) k) (slice_index l.numbers k)) l.from l.to l.i
+    let B = g.A.Figure.Figure.bits in
+    Filled (λ k ends. (v : _) → between B ends v ≡ box_at_most (line_at B (map g.A.Axis.line l.axes) k) (slice_index l.numbers k) v) B.zero l.from l.to l.i
