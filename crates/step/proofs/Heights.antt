@@ -1,12 +1,12 @@
 -- Boxes and figures by heights.
-use Rattle.std.proofs.Common.{◌≡◌, ℕ, ◌+◌, ◌-◌, ◌*◌, ◌/◌, ◌≤◌, Bool, true, false, cond, ◌&&◌, min, refl, arith}
+use Rattle.std.proofs.Common.{◌≡◌, ℕ, ◌+◌, ◌-◌, ◌*◌, ◌/◌, ◌≤◌, Bool, true, false, cond, ◌&&◌, min, refl, sym, ap, ◌∙◌, arith}
 use Rattle.std.specs.Prelude.{ℤ, pos, negsuc, ◌-ℤ◌, ◌≤ℤ◌, int_le, nat_le, nat_lt, unsigned_abs}
 use Rattle.std.specs.Int.{int_max, int_min}
 use Rattle.std.specs.Cmp.{both_ways}
 use Rattle.std.proofs.Math.Bool.{and_comm}
-use Rattle.std.proofs.lemmas.Nat.{div-add-mod', div_below, le-div, mod_below, mul-le}
+use Rattle.std.proofs.lemmas.Nat.{div-mul-add, div-add-mod', div_below, le-div, mod_below, mul-le}
 use Rattle.std.proofs.lemmas.Int.{ints, clamps}
-use Rattle.std.proofs.lemmas.Bool.{leb-true, le-leb}
+use Rattle.std.proofs.lemmas.Bool.{and_parts, leb-true, le-leb}
 use Rattle.std.proofs.lemmas.Bool.Decides.{nat_tests}
 use Rattle.step.specs.declared.scaling.Direction.{Direction}
 use Rattle.step.specs.declared.scaling.Direction.TheVariants.{LargerIsBetter, SmallerIsBetter}
@@ -68,3 +68,10 @@ heights_from (pos m) step n way some =
 pub tested : (on : Bool) (box : ℕ) (test : ℕ → Bool) → (on && test box) ≡ (on && test (cond on box 0))
 tested true box test = refl
 tested false box test = refl
+
+-- so many whole steps, and less than a step more
+pub whole_steps : (n m step k : ℕ) → m ≡ k → (nat_le (n * step) m && nat_lt (m - n * step) step) ≡ true → n ≡ k / step
+whole_steps n m step k same e =
+    let both = and_parts (nat_le (n * step) m) (nat_lt (m - n * step) step) e in
+    let within : n * step + (m - n * step) ≡ k = omega (arith, same, leb-true (n * step) m both.0) in
+    sym (div-mul-add n step (m - n * step) (leb-true _ _ both.1)) ∙ ap (λ x. x / step) within

@@ -6,10 +6,11 @@ ghost use Rattle.step.specs.Laws.{step_lawful};
 use crate::scaling::Scale;
 use grid::{Axis, Grid};
 
-// A sound scale.
+// A sound scale, with what a height is multiplied by for a guess at its box.
 #[derive(Clone, Copy)]
 pub struct StepAxis {
     scale: Scale,
+    inverse: u64,
     ghost sound: { step_sound scale ≡ true },
 }
 
@@ -32,7 +33,10 @@ impl Axis for StepAxis {
     fn new(scale: Scale) -> Option<StepAxis> {
         // by `if`: in the closure of a `then` it is not known that the scale is sound
         if scale.is_sound() {
-            Some(StepAxis { scale })
+            Some(StepAxis {
+                scale,
+                inverse: scale.inverse(),
+            })
         } else {
             None
         }
@@ -54,7 +58,7 @@ impl Axis for StepAxis {
 
     fn box_number(&self, v: i32) -> u32 {
         if self.admits(v) {
-            self.scale.find_box(v)
+            self.scale.find_box(v, self.inverse)
         } else {
             0
         }
