@@ -1,16 +1,13 @@
 -- What the decision over some members tells, and what a look at them tells of it.
-use Rattle.std.proofs.Common.{◌≡◌, ℕ, ◌+◌, Bool, true, false, cond, ◌&&◌, ◌||◌, List, [], ◌∷◌, Some, None, Option, sym, refl, ap, ◌∙◌, arith}
+use Rattle.std.proofs.Common.{◌≡◌, ℕ, ◌+◌, Bool, true, false, cond, ◌||◌, List, [], ◌∷◌, Some, None, Option, sym, refl, ap, ◌∙◌, arith}
 use Rattle.std.specs.List.{list_any, position, position_from}
 use Rattle.std.specs.Option.{is_some}
-use Rattle.std.proofs.lemmas.Bool.{true≢false}
 use Rattle.std.proofs.lemmas.Iterator.Adapters.{position_from-zero}
 use Rattle.space.specs.Meaning.{Meaning}
-use Rattle.space.specs.Boxes.{same_box}
 use Rattle.space.specs.Looking.{look_of}
 use Rattle.space.specs.declared.looking.Look.{Look}
 use Rattle.space.specs.declared.tagged.Trial.{Trial}
 use Rattle.history.specs.declared.verdicts.Verdict.TheVariants.{PassedOver}
-use Rattle.history.specs.Comparing.{dominates}
 use Rattle.history.specs.Lists.{any}
 use Rattle.history.specs.Step.{Outcome, below, beaten, shuts, displacing, replacing, entering, judge}
 use Rattle.history.specs.Step.Outcome.{judged}
@@ -46,28 +43,9 @@ module _ {A : Type 0} (f : A → Bool) where
   pub any_first : (xs : List A) → is_some (position f xs) ≡ any f xs
   any_first xs = ap is_some (position_from-zero f xs) ∙ any_placed 0 xs
 
-  -- where nothing passes nothing is first
-  none_first : (k : ℕ) (xs : List A) → any f xs ≡ false → position_from f k xs ≡ None
-  none_first k [] e = refl
-  none_first k (x ∷ xs) e₀ =
-      (elim (f x) as (λ b. (b || any f xs) ≡ false → cond b (Some k) (position_from f (k + 1) xs) ≡ None) [ true ↦ λ e. absurd (true≢false e) | false ↦ λ e. none_first (k + 1) xs e ])
-      e₀
-
--- what passes one test more passes the first
-any_fewer : {A : Type 0} (f g : A → Bool) (xs : List A) → any f xs ≡ false → any (λ x. f x && g x) xs ≡ false
-any_fewer f g [] e = refl
-any_fewer f g (x ∷ xs) e₀ =
-    (elim (f x) as (λ b. (b || any f xs) ≡ false → ((b && g x) || any (λ x. f x && g x) xs) ≡ false) [ true ↦ λ e. absurd (true≢false e) | false ↦ λ e. any_fewer f g xs e ])
-    e₀
-
 module _ {P : Type 0} (M : Meaning P) (t : Trial P) where
-  -- a look at the members tells what is decided: which is the first that is beaten has to be asked only where a member has the trial's box
+  -- a look at the members tells what is decided, with the first that is beaten
   module _ (xs : List (Trial P)) (look : Look) (seen : look ≡ look_of M t.point xs) where
-    pub none_beaten : look.same ≡ false → None ≡ position (beaten M t) xs
-    none_beaten e =
-        let none : any (λ r. same_box M t.point r.point) xs ≡ false = sym (any_listed (λ r. same_box M t.point r.point) xs) ∙ sym (ap (λ l. l.same) seen) ∙ e in
-        sym (position_from-zero (beaten M t) xs ∙ none_first (beaten M t) 0 xs (any_fewer (λ r. same_box M t.point r.point) (λ r. dominates M t.point r.point) xs none))
-
     pub decided_by : (o : Option ℕ) → o ≡ position (beaten M t) xs → first_step look.below o look.shut ≡ decision M xs t
     decided_by o e =
         ap (λ b. first_step b o look.shut) (ap (λ l. l.below) seen ∙ any_listed (below M t) xs)

@@ -1,9 +1,11 @@
+pub mod Beaten
 pub mod Closed
 pub mod Decided
 pub mod Extents
 pub mod Fed
+pub mod Glanced
 pub mod Idle
-pub mod Looked
+pub mod Known
 pub mod Offers
 pub mod Pairing
 pub mod Returned

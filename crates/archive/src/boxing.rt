@@ -29,20 +29,22 @@ impl<'a, S: Space> Boxed<'a, S> {
         })
     }
 
+    // The trial with its box, whose numbers are zero off the grid.
+    pub(crate) fn of(space: &'a S, trial: Trial<S::Point>) -> Boxed<'a, S>
+        ensures { (result.space.now ≡ space.now) × (result.trial ≡ trial) }
+    {
+        Boxed {
+            space,
+            trial,
+            numbers: six_boxes(space, &trial.point),
+        }
+    }
+
     // How this trial's box lies to the box of q.
     pub(crate) fn lie(&self, q: &S::Point) -> Lie
         ensures { result ≡ record { over = at_least (S.Space.meaning self.now.space.now) self.now.trial.point q.now; under = at_least (S.Space.meaning self.now.space.now) q.now self.now.trial.point } }
     {
         Lie::of(&self.numbers, &six_boxes(self.space, q))
-    }
-
-    // Whether this trial dominates q. The crate of what stands has the question too: the project keeps apart from the archive what an
-    // archive is held against.
-    fn dominates(&self, q: &S::Point) -> bool
-        ensures { result ≡ dominates (S.Space.meaning self.now.space.now) self.now.trial.point q.now }
-    {
-        let p = &self.trial.point;
-        self.space.no_worse(p, q) && !self.space.no_worse(q, p)
     }
 
     // Whether this trial's box dominates the member's.
@@ -57,10 +59,18 @@ impl<'a, S: Space> Boxed<'a, S> {
     pub(crate) fn beats(&self, member: &Trial<S::Point>) -> bool
         ensures { result ≡ beaten (S.Space.meaning self.now.space.now) self.now.trial member.now }
     {
-        if !self.dominates(&member.point) {
+        if !dominates(self.space, &self.trial.point, &member.point) {
             return false;
         }
         let lie = self.lie(&member.point);
         lie.over && lie.under
     }
+}
+
+// Whether p dominates q. The crate of what stands has the question too: the project keeps apart from the archive what an archive is held
+// against.
+pub(crate) fn dominates<S: Space>(space: &S, p: &S::Point, q: &S::Point) -> bool
+    ensures { result ≡ dominates (S.Space.meaning space.now) p.now q.now }
+{
+    space.no_worse(p, q) && !space.no_worse(q, p)
 }

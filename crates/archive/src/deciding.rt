@@ -1,12 +1,13 @@
 // What is to be done with a trial.
 ghost use Rattle.std.specs.Prelude.{◌≡◌};
 ghost use Rattle.std.specs.List.{position};
-ghost use Rattle.space.specs.Looking.{look_of};
+ghost use Rattle.space.specs.Boxes.{same_box};
+ghost use Rattle.space.specs.Looking.{holders_of, look_of};
 ghost use Rattle.history.specs.Step.{beaten};
 ghost use Rattle.archive.specs.Deciding.{decision, first_step};
 
-use crate::boxing::Boxed;
-use space::{Look, Space, Trial};
+use crate::boxing::{Boxed, dominates};
+use space::{Holders, Look, Space, Trial};
 
 // The first of the four steps of an offer that applies.
 #[derive(Clone, Copy)]
@@ -35,25 +36,47 @@ fn first_step(below: bool, beaten: Option<usize>, shut: bool) -> Decision
     }
 }
 
-impl<S: Space> Boxed<'_, S> {
-    // The first row whose member the trial beats.
-    fn first_beaten(&self, members: &[Trial<S::Point>]) -> Option<usize>
-        ensures { result ≡ position (beaten (S.Space.meaning self.now.space.now) self.now.trial) members.now }
-    {
-        members.iter().position(|member| self.beats(member))
+// The first row whose member the trial beats, by who holds its box.
+fn first_beaten<S: Space>(
+    space: &S,
+    trial: Trial<S::Point>,
+    members: &[Trial<S::Point>],
+    holders: Holders,
+) -> Option<usize>
+    requires { holders ≡ holders_of (λ m. same_box (S.Space.meaning space.now) trial.point m.point) members.now }
+    ensures { result ≡ position (beaten (S.Space.meaning space.now) trial) members.now }
+{
+    match holders {
+        Holders::Nobody => None,
+        Holders::One(row) => {
+            let holder = &members[row];
+            if dominates(space, &trial.point, &holder.point) {
+                Some(row)
+            } else {
+                None
+            }
+        }
+        Holders::Several => {
+            let boxed = Boxed::of(space, trial);
+            members.iter().position(|member| boxed.beats(member))
+        }
     }
+}
 
-    // What is to be done with the trial, once it was looked how its box lies to those of the members. Only a member of its own box can be
-    // beaten.
-    pub(crate) fn decide(&self, members: &[Trial<S::Point>], look: Look) -> Decision
-        requires { look ≡ look_of (S.Space.meaning self.now.space.now) self.now.trial.point members.now }
-        ensures { result ≡ decision (S.Space.meaning self.now.space.now) members.now self.now.trial }
-    {
-        let beaten = if look.same {
-            self.first_beaten(members)
-        } else {
-            None
-        };
-        first_step(look.below, beaten, look.shut)
-    }
+// What is to be done with a trial, once it was looked how its box lies to those of the members. Only a member of its own box can be
+// beaten.
+pub(crate) fn decide<S: Space>(
+    space: &S,
+    trial: Trial<S::Point>,
+    members: &[Trial<S::Point>],
+    look: Look,
+) -> Decision
+    requires { look ≡ look_of (S.Space.meaning space.now) trial.point members.now }
+    ensures { result ≡ decision (S.Space.meaning space.now) members.now trial }
+{
+    first_step(
+        look.below,
+        first_beaten(space, trial, members, look.holders),
+        look.shut,
+    )
 }

@@ -1,37 +1,79 @@
 // Feed: the trials of a block of a log are tried one after the other.
-ghost use Rattle.std.specs.Prelude.{◌≡◌, ◌≤◌, [], ◌∷◌, length};
+ghost use Rattle.std.specs.Prelude.{◌≡◌, ◌≤◌, [], ◌∷◌, length, Ok};
 ghost use Rattle.space.specs.Recording.{read_point};
 ghost use Rattle.log_block.specs.Reading.{left_to_read, seen_at};
 ghost use Rattle.history.specs.BlockTrials.{trials_of};
 ghost use Rattle.archive.specs.Feeding.{FeedRight, TakenRight, TriedRight};
 ghost use Rattle.archive.specs.Held.{held_by};
-ghost use Rattle.archive.specs.Knowing.{Knows};
+ghost use Rattle.archive.specs.Knowing.{KnowsIfTold, MeetsAlone};
 ghost use Rattle.archive.specs.Lent.{lending};
 
-use crate::boxing::Boxed;
+use crate::boxing::dominates;
 use crate::holding::Archive;
-use crate::knowing::Known;
+use crate::knowing::{Glance, Known};
 use crate::members::Members;
+use crate::offering::{passed_over, step};
 use crate::summing::one_fed;
 use history::{Denial, Fed, FeedFault, Offered};
 use log_block::{Placed, Record, Records, check};
 use space::{Recorded, Space, Trial, read_or_blank};
 
-// A trial of a block: it is denied off the grid, and else judged. There is no list for the tags of those that go.
+// A trial of a block that has to be read: it is denied off the grid, and else judged. There is no list for the tags of those that go.
 fn try_trial<S: Space>(
     space: &S,
     trial: Trial<S::Point>,
+    members: &mut Members<'_, S::Point>,
+) -> Result<Offered, Denial>
+    ensures { TriedRight (S.Space.meaning space.now) trial members.old result members.new }
+{
+    let Some(look) = space.look(&trial.point, members.as_slice()) else {
+        return Err(Denial::OffGrid);
+    };
+    step(space, trial, members, look, &mut [])
+}
+
+// A trial whose box is that of the member in this row, and equals or dominates no other: the two decide alone.
+fn meet<S: Space>(
+    space: &S,
+    trial: Trial<S::Point>,
+    row: usize,
+    members: &mut Members<'_, S::Point>,
+) -> Offered
+    requires { MeetsAlone (S.Space.meaning space.now) trial row (held_by members.old) }
+    ensures { TriedRight (S.Space.meaning space.now) trial members.old (Ok result) members.new }
+{
+    let rival = &members.as_slice()[row];
+    if dominates(space, &trial.point, &rival.point) {
+        members.replace(row, trial, &mut [])
+    } else {
+        passed_over()
+    }
+}
+
+// A trial of a block, by the bytes of its point: what is known of the members tells of most trials that they are passed over, and then
+// there is no point to be read.
+fn try_bytes<S: Recorded>(
+    space: &S,
+    tag: u32,
+    bytes: &[u8],
     known: &Known,
     members: &mut Members<'_, S::Point>,
 ) -> Result<Offered, Denial>
-    requires { Knows (S.Space.meaning space.now) (held_by members.old) known.now }
-    ensures { TriedRight (S.Space.meaning space.now) trial members.old result members.new }
+    requires { KnowsIfTold (S.Space.meaning space.now) (S.Recorded.recording space.now) (held_by members.old) known.now }
+    ensures { TriedRight (S.Space.meaning space.now) (record { point = read_point (S.Recorded.recording space.now) bytes.now; tag = tag }) members.old result members.new }
 {
-    let Some(boxed) = Boxed::new(space, trial) else {
-        return Err(Denial::OffGrid);
+    let glance = known.glance(bytes);
+    if let Glance::Shut = glance {
+        return Ok(passed_over());
+    }
+    let trial = Trial {
+        point: read_or_blank(space, bytes),
+        tag,
     };
-    let look = known.look(&boxed, members.as_slice());
-    boxed.step(members, look, &mut [])
+    match glance {
+        Glance::Rival(row) => Ok(meet(space, trial, row, members)),
+        _ => try_trial(space, trial, members),
+    }
 }
 
 // A record of a block: a note is skipped, and a trial is tried.
@@ -41,17 +83,14 @@ fn take_record<S: Recorded>(
     known: &Known,
     members: &mut Members<'_, S::Point>,
 ) -> Fed
-    requires { Knows (S.Space.meaning space.now) (held_by members.old) known.now }
+    requires { KnowsIfTold (S.Space.meaning space.now) (S.Recorded.recording space.now) (held_by members.old) known.now }
     ensures { TakenRight (S.Space.meaning space.now) (trials_of (read_point (S.Recorded.recording space.now)) (seen_at placed.entry ∷ [])) members.old result members.new }
 {
     match placed.record {
-        Record::Trial { tag, point } => {
-            let trial = Trial {
-                point: read_or_blank(space, point),
-                tag,
-            };
-            one_fed(placed.place, try_trial(space, trial, known, members))
-        }
+        Record::Trial { tag, point } => one_fed(
+            placed.place,
+            try_bytes(space, tag, point, known, members),
+        ),
         Record::Note(_) => Fed::default(),
     }
 }
@@ -66,12 +105,13 @@ fn take_records<S: Recorded>(
     requires few { length (left_to_read records) ≤ 255 }
     ensures { TakenRight (S.Space.meaning space.now) (trials_of (read_point (S.Recorded.recording space.now)) (left_to_read records.entry)) members.old result members.new }
 {
-    let mut known = Known::of(space, members.as_slice());
+    let mut known = Known::nothing();
+    known.learn(space, members.as_slice());
     let mut fed = Fed::default();
     for placed in records {
         let came = take_record(space, placed, &known, members);
         if came.entered > 0 {
-            known = Known::of(space, members.as_slice());
+            known.learn(space, members.as_slice());
         }
         fed = fed.saturating_add(came);
     }

@@ -1,6 +1,7 @@
 // Offer: a trial is judged against the members.
 ghost use Rattle.std.specs.Prelude.{◌≡◌, ℕ, ◌<◌, true, List, length};
 ghost use Rattle.space.specs.Looking.{look_of};
+ghost use Rattle.history.specs.declared.verdicts.Verdict.TheVariants.{PassedOver};
 ghost use Rattle.history.specs.Lists.{any};
 ghost use Rattle.history.specs.Step.{below, displacing, entering, judge};
 ghost use Rattle.archive.specs.Held.{held_by};
@@ -9,15 +10,25 @@ ghost use Rattle.archive.specs.Offering.{OfferRight, StepRight, replacing_row};
 
 use crate::boxing::Boxed;
 use crate::closing::note;
-use crate::deciding::Decision;
+use crate::deciding::{Decision, decide};
 use crate::holding::Archive;
 use crate::members::Members;
 use history::{Denial, Offered, Verdict};
 use space::{Look, Space, Trial};
 
+// The answer to a trial that is passed over.
+pub(crate) fn passed_over() -> Offered
+    ensures { result ≡ record { verdict = PassedOver; displaced = 0 } }
+{
+    Offered {
+        verdict: Verdict::PassedOver,
+        displaced: 0,
+    }
+}
+
 impl<P: Copy> Members<'_, P> {
     // The member in one row goes, those after it close up, and the trial enters after them.
-    fn replace(&mut self, row: usize, trial: Trial<P>, displaced: &mut [u32]) -> Offered
+    pub(crate) fn replace(&mut self, row: usize, trial: Trial<P>, displaced: &mut [u32]) -> Offered
         requires { row < self.old.count }
         ensures { StepRight (replacing_row (held_by self.old) row trial) self.old displaced.old (Ok result) self.new displaced.new }
     {
@@ -61,26 +72,24 @@ impl<S: Space> Boxed<'_, S> {
             displaced: count - stay,
         }
     }
+}
 
-    // The first of the four steps that applies, for a trial on the grid, once it was looked how its box lies to those of the members.
-    pub(crate) fn step(
-        &self,
-        members: &mut Members<'_, S::Point>,
-        look: Look,
-        displaced: &mut [u32],
-    ) -> Result<Offered, Denial>
-        requires { look ≡ look_of (S.Space.meaning self.now.space.now) self.now.trial.point (held_by members.old) }
-        ensures { StepRight (judge (S.Space.meaning self.now.space.now) (length members.old.rows.now) (held_by members.old) self.now.trial) members.old displaced.old result members.new displaced.new }
-    {
-        match self.decide(members.as_slice(), look) {
-            Decision::Displace => Ok(self.displace(members, displaced)),
-            Decision::Replace(row) => Ok(members.replace(row, self.trial, displaced)),
-            Decision::PassOver => Ok(Offered {
-                verdict: Verdict::PassedOver,
-                displaced: 0,
-            }),
-            Decision::Enter => members.enter(self.trial),
-        }
+// The first of the four steps that applies, for a trial on the grid, once it was looked how its box lies to those of the members.
+pub(crate) fn step<S: Space>(
+    space: &S,
+    trial: Trial<S::Point>,
+    members: &mut Members<'_, S::Point>,
+    look: Look,
+    displaced: &mut [u32],
+) -> Result<Offered, Denial>
+    requires { look ≡ look_of (S.Space.meaning space.now) trial.point (held_by members.old) }
+    ensures { StepRight (judge (S.Space.meaning space.now) (length members.old.rows.now) (held_by members.old) trial) members.old displaced.old result members.new displaced.new }
+{
+    match decide(space, trial, members.as_slice(), look) {
+        Decision::Displace => Ok(Boxed::of(space, trial).displace(members, displaced)),
+        Decision::Replace(row) => Ok(members.replace(row, trial, displaced)),
+        Decision::PassOver => Ok(passed_over()),
+        Decision::Enter => members.enter(trial),
     }
 }
 
@@ -107,11 +116,10 @@ impl<S: Space> Archive<S> {
             count: self.count,
         };
         let space = &self.space;
-        let Some(boxed) = Boxed::new(space, trial) else {
+        let Some(look) = space.look(&trial.point, members.as_slice()) else {
             return Err(Denial::OffGrid);
         };
-        let look = space.look(&trial.point, members.as_slice());
-        let answer = boxed.step(&mut members, look, displaced);
+        let answer = step(space, trial, &mut members, look, displaced);
         self.count = members.count;
         answer
     }

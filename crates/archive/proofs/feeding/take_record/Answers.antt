@@ -1,4 +1,4 @@
-use Rattle.std.proofs.Common.{ap, rules}
+use Rattle.std.proofs.Common.{ap, refl, rules}
 use Rattle.space.specs.Recording.{read_point}
 use Rattle.log_block.specs.Reading.{seen}
 use Rattle.archive.proofs.Taking.{record_skipped, record_tried}
@@ -7,7 +7,7 @@ use Rattle.archive.proofs.feeding.take_record.Goals as goal
 pub returns-in-Trial : goal.returns-in-Trial
 returns-in-Trial g c =
     record_tried (g.S.Space.meaning c.args.space.now) (read_point (g.S.Recorded.recording c.args.space.now)) c.args.placed.place (seen c.args.placed.record) c.args.members.now c.one_fed.result
-    c.in-Trial.tag c.in-Trial.point.now c.read_or_blank.result c.try_trial.result c.try_trial.new.members (ap seen c.in-Trial.is) c.read_or_blank.ensures.value c.one_fed.ensures c.try_trial.ensures
+    c.in-Trial.tag c.in-Trial.point.now _ c.try_bytes.result c.try_bytes.new.members (ap seen c.in-Trial.is) refl c.one_fed.ensures c.try_bytes.ensures
 
 pub returns-in-Note : goal.returns-in-Note
 returns-in-Note g c =

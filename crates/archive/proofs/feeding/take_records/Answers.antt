@@ -3,7 +3,8 @@ use Rattle.space.specs.Recording.{read_point}
 use Rattle.log_block.specs.Reading.{left_to_read, seen_at}
 use Rattle.history.specs.BlockTrials.{trials_of}
 use Rattle.archive.specs.Held.{held_by}
-use Rattle.archive.proofs.Looked.{knows_same}
+use Rattle.archive.specs.Knowing.{KnowsIfTold, Roomy}
+use Rattle.archive.proofs.Known.{known_same}
 use Rattle.archive.proofs.Taking.{going_record, going_records, tally_idle, trials_few}
 use Rattle.archive.proofs.feeding.take_records.Goals as goal
 use Rattle.archive.proofs.feeding.take_records.Goals.{then-came-gt0, else-came-gt0}
@@ -13,19 +14,27 @@ loop-placed-preserved g c =
     let reads = read_point (g.S.Recorded.recording c.args.space.now) in
     let all = left_to_read c.args.records in
     let M = g.S.Space.meaning c.args.space.now in
+    let R = g.S.Recorded.recording c.args.space.now in
     let before = c.loop-placed.members in
     let after = c.take_record-came.new.members in
-    let came = c.take_record-came in (
+    let came = c.take_record-came in
+    let known : Roomy c.if-came-gt0.known.most × Roomy c.if-came-gt0.known.least × KnowsIfTold M R (held_by after) c.if-came-gt0.known =
+    elim c.if-came-gt0.branch [
+      | then-came-gt0 w ↦
+          let learnt = w.learn-then-came-gt0.ensures in
+          known_same M R _ (held_by after) _ c.if-came-gt0.known (sym w.as_slice-then-came-gt0.ensures) w.known-is (learnt.room.0, learnt.room.1, learnt.known)
+      | else-came-gt0 w ↦
+          let none : came.result.entered ≡ 0 = omega (arith, w.if-came-gt0.false) in
+          let idle = tally_idle M (length before.rows.now) (held_by before) (trials_of reads (seen_at c.in-Some.placed ∷ [])) (sym (ap (λ f. f.entered) came.ensures.told) ∙ none) in
+          let I = c.loop-placed.invariant in
+          known_same M R (held_by before) (held_by after) c.loop-placed.known c.if-came-gt0.known (came.ensures.in_order ∙ idle) w.known-is (I.1, I.2, I.3)
+    ] in (
       going_record M reads (trials_of reads all) c.args.members.now
           (left_to_read c.loop-placed.placed-iterator) (left_to_read c.next.new.self) (seen_at c.in-Some.placed) c.loop-placed.fed came.result c.saturating_add-fed.result before after
           c.requires.known (omega (arith, trials_few reads all, c.requires.few)) c.in-Some.ensures.steps c.saturating_add-fed.ensures c.loop-placed.invariant.0 came.ensures,
-      elim c.if-came-gt0.branch [
-        | then-came-gt0 w ↦ knows_same M _ (held_by after) _ c.if-came-gt0.known (sym w.as_slice-then-came-gt0.ensures) w.known-is w.of-known-then-came-gt0.ensures
-        | else-came-gt0 w ↦
-            let none : came.result.entered ≡ 0 = omega (arith, w.if-came-gt0.false) in
-            let idle = tally_idle M (length before.rows.now) (held_by before) (trials_of reads (seen_at c.in-Some.placed ∷ [])) (sym (ap (λ f. f.entered) came.ensures.told) ∙ none) in
-            knows_same M (held_by before) (held_by after) c.loop-placed.known c.if-came-gt0.known (came.ensures.in_order ∙ idle) w.known-is c.loop-placed.invariant.1
-      ],
+      known.0,
+      known.1,
+      known.2,
     )
 
 pub returns : goal.returns

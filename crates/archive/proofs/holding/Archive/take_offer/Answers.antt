@@ -1,6 +1,7 @@
 use Rattle.std.proofs.Common.{refl, rules}
 use Rattle.history.specs.declared.denials.Denial.TheVariants.{StrangeRows, ShortList, OffGrid}
 use Rattle.archive.specs.Lent.{lending}
+use Rattle.space.proofs.Looks.{looked_by, off_by}
 use Rattle.archive.proofs.Offers.{strange_rows, short_list, off_grid, passes, denied_right, judged_right}
 use Rattle.archive.proofs.holding.Archive.take_offer.Goals as goal
 
@@ -34,7 +35,7 @@ returns-in_default g c =
     let a = lending self c.args.rows.now c.args.displaced.now in
     record {
       space = refl;
-      right = denied_right M t a (g.met.S.Space.lawful self.space) OffGrid (off_grid M t a c.if-rows-self.false c.if-displaced-self.false c.in_default.ensures);
+      right = denied_right M t a (g.met.S.Space.lawful self.space) OffGrid (off_grid M t a c.if-rows-self.false c.if-displaced-self.false (off_by M t.point c.as_slice.result.now c.in_default.ensures));
     }
 
 pub returns : goal.returns
@@ -43,9 +44,9 @@ returns g c =
     let M = g.S.Space.meaning self.space in
     let t = c.args.trial in
     let a = lending self c.args.rows.now c.args.displaced.now in
-    let passed = passes M t a c.if-rows-self.false c.if-displaced-self.false c.in-Some.ensures.0 in
-    let stepped = rw (c.in-Some.ensures.1, c.in-Some.ensures.2) at c.step-answer.ensures in
+    let looked = looked_by M t.point c.as_slice.result.now c.in-Some.look c.in-Some.ensures in
+    let passed = passes M t a c.if-rows-self.false c.if-displaced-self.false looked.0 in
     record {
       space = refl;
-      right = judged_right M t a (g.met.S.Space.lawful self.space) c.step-answer.result _ c.step-answer.new.members _ c.step-answer.new.displaced (search rules) refl refl c.if-rows-self.false c.if-displaced-self.false passed stepped;
+      right = judged_right M t a (g.met.S.Space.lawful self.space) c.step-answer.result _ c.step-answer.new.members _ c.step-answer.new.displaced (search rules) refl refl c.if-rows-self.false c.if-displaced-self.false passed c.step-answer.ensures;
     }
