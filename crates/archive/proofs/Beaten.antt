@@ -2,7 +2,7 @@
 use Rattle.std.proofs.Common.{◌≡◌, ℕ, zero, suc, ◌+◌, ◌<◌, Bool, true, false, cond, ◌&&◌, ◌||◌, List, [], ◌∷◌, length, get_or, Some, None, filter, sym, refl, ap, ◌∙◌, subst, ⊎_elim, arith}
 use Rattle.std.specs.Prelude.{◌≢◌, ◌==◌}
 use Rattle.std.specs.List.{position, position_from}
-use Rattle.std.proofs.lemmas.Bool.{and_from, cases_Bool, eqb-true}
+use Rattle.std.proofs.lemmas.Bool.{and_from, cases_eq, cases_Bool, eqb-true}
 use Rattle.std.proofs.lemmas.List.{get_or_default}
 use Rattle.std.proofs.lemmas.Iterator.Adapters.{position_from-zero}
 use Rattle.space.specs.Meaning.{Meaning}
@@ -13,7 +13,6 @@ use Rattle.space.specs.declared.tagged.Trial.{Trial}
 use Rattle.history.specs.Comparing.{dominates}
 use Rattle.history.specs.Lists.{any}
 use Rattle.history.specs.Step.{beaten}
-use Rattle.archive.proofs.Known.{same_or_not}
 
 module _ {A : Type 0} (f : A → Bool) where
   -- by their places: none passes, one passes, and one alone does
@@ -132,5 +131,5 @@ module _ {P : Type 0} (M : Meaning P) (t : Trial P) (members : List (Trial P)) w
         let this : m ≡ holder = at ∙ ap (λ n. get_or members n m) e ∙ get_or_default members row m holder A.0 ∙ sym is in
         ap (λ r. same_box M t.point m.point && dominates M t.point r.point) this
         ∙ ap (λ b. same_box M t.point m.point && b) worse ∙ (elim (same_box M t.point m.point) as (λ b. (b && false) ≡ false) [ true ↦ refl | false ↦ refl ]))
-        (λ (d : row ≢ k). fails_with (same_box M t.point m.point) (dominates M t.point m.point) (A.2 k m l (λ e. d (sym e)) at))
-        (same_or_not k row))
+        (λ (d : k ≢ row). fails_with (same_box M t.point m.point) (dominates M t.point m.point) (A.2 k m l d at))
+        (cases_eq k row))

@@ -2,7 +2,7 @@
 use Rattle.std.proofs.Common.{◌≡◌, ℕ, ◌*◌, ◌<◌, Bool, true, false, ◌&&◌, not, List, length, get_or, Some, None, Result, sym, refl, ap, ◌∙◌, ⊎_elim, arith}
 use Rattle.std.specs.Prelude.{◌≢◌}
 use Rattle.std.specs.List.{position}
-use Rattle.std.proofs.lemmas.Bool.{and_parts, and_from, cond-true, eq-eqb}
+use Rattle.std.proofs.lemmas.Bool.{and_parts, and_from, cases_eq, cond-true, eq-eqb}
 use Rattle.std.proofs.lemmas.List.{get_or_default}
 use Rattle.word.specs.Word.{Bytes}
 use Rattle.space.specs.Meaning.{Meaning}
@@ -26,7 +26,6 @@ use Rattle.archive.specs.Held.{held_by}
 use Rattle.archive.specs.Knowing.{Knows, MeetsAlone, Tells, in_least, in_most, span_at}
 use Rattle.archive.specs.Offering.{StepRight}
 use Rattle.archive.proofs.Beaten.{Alone, any_none, any_some, fails_with, holder_beaten, holder_stays, nobody_beaten}
-use Rattle.archive.proofs.Known.{same_or_not}
 
 module _ {P : Type 0} (M : Meaning P) (t : Trial P) (members : List (Trial P)) where
   -- the decision, by what is so of the members
@@ -56,8 +55,8 @@ module _ {P : Type 0} (M : Meaning P) (t : Trial P) (members : List (Trial P)) w
         (λ (e : k ≡ row).
         let same : at_least M m.point t.point ≡ true = (and_parts (at_least M t.point m.point) (at_least M m.point t.point) (A.2 m (at ∙ ap (λ n. get_or members n m) e))).1 in
         ap (λ b. at_least M t.point m.point && not b) same ∙ (elim (at_least M t.point m.point) as (λ b. (b && false) ≡ false) [ true ↦ refl | false ↦ refl ]))
-        (λ (d : row ≢ k). fails_with (at_least M t.point m.point) (not (at_least M m.point t.point)) (A.3 k m l (λ e. d (sym e)) at))
-        (same_or_not k row)
+        (λ (d : k ≢ row). fails_with (at_least M t.point m.point) (not (at_least M m.point t.point)) (A.3 k m l d at))
+        (cases_eq k row)
 
     alone : Alone (λ m. same_box M t.point m.point) members row
     alone = (A.1, A.2, λ k m l d at. fails_with (at_least M t.point m.point) (at_least M m.point t.point) (A.3 k m l d at))

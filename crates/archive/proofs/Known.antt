@@ -1,12 +1,11 @@
 -- What is known of the members: the spans of one member more, and what a glance at some bytes tells.
-use Rattle.std.proofs.Common.{◌≡◌, ℕ, ◌*◌, ◌||◌, cond, subst, add-one, ◌+◌, ◌<◌, ◌≤◌, List, [], length, get_or, replicate, set, length-set, get_or-set_same, get_or-set_other, sym, refl, ap, ◌∙◌, inl, inr, ⊎_elim, arith, map, Bool, true, false, ◌&&◌, ℤ, pos, int_le}
-use Rattle.std.specs.Prelude.{◌≢◌, ◌⊎◌, slice_index_or}
+use Rattle.std.proofs.Common.{◌≡◌, ℕ, ◌*◌, ◌||◌, cond, subst, add-one, ◌+◌, ◌<◌, ◌≤◌, List, [], length, get_or, replicate, set, length-set, get_or-set_same, get_or-set_other, sym, refl, ap, ◌∙◌, ⊎_elim, arith, map, Bool, true, false, ◌&&◌, ℤ, pos, int_le}
+use Rattle.std.specs.Prelude.{◌≢◌, slice_index_or}
 use Rattle.std.specs.List.{range_with_len}
-use Rattle.std.proofs.lemmas.Bool.{cases_lt}
 use Rattle.std.proofs.lemmas.List.FromFn.{get_or-map-range_with_len, fill_by_all}
 use Rattle.std.proofs.lemmas.List.{get_or_default, get_or-replicate, length-replicate}
 use Rattle.std.proofs.Math.Bool.{and_comm}
-use Rattle.std.proofs.lemmas.Bool.{or_cases, cases_Bool, false≢true}
+use Rattle.std.proofs.lemmas.Bool.{cases_eq, or_cases, cases_Bool, false≢true}
 use Rattle.space.specs.Meaning.{Meaning}
 use Rattle.space.specs.Recording.{Recording}
 use Rattle.space.specs.Spans.{SpansOf, each_in, in_span, signed_at}
@@ -15,14 +14,6 @@ use Rattle.space.specs.declared.tagged.Trial.{Trial}
 use Rattle.archive.specs.declared.knowing.Ends.{Ends}
 use Rattle.archive.specs.declared.knowing.Known.{Known}
 use Rattle.archive.specs.Knowing.{AllLong, column, KnowsIfTold, Roomy, in_least, in_most, span_at, spans_at}
-
--- two numbers are the same or not
-pub same_or_not : (i m : ℕ) → (i ≡ m) ⊎ (m ≢ i)
-same_or_not i m =
-    ⊎_elim
-    (λ (l : i < m). inr (λ e. omega (arith, e)))
-    (λ (g : m ≤ i). ⊎_elim (λ (l : m < i). inr (λ e. omega (arith, e))) (λ (h : i ≤ m). inl (omega arith)) (cases_lt m i))
-    (cases_lt i m)
 
 -- of the numbers of member k those of the first i objectives are kept, and those of the other members are as they were
 pub record Keeping (ns ns' : List (List ℤ)) (k : ℕ) (boxes : List ℤ) (i : ℕ) : Type 0 where
@@ -40,25 +31,25 @@ module _ (ns ns' : List (List ℤ)) (k : ℕ) (boxes : List ℤ) (i : ℕ) (K : 
   pub keeping_more : i < 6 → k < 64 → Keeping ns (set ns' i (set (get_or ns' i []) k (slice_index_or boxes i (pos 0)))) k boxes (i + 1)
   keeping_more six room =
       let row = set (get_or ns' i []) k (slice_index_or boxes i (pos 0)) in
-      let this : (m : ℕ) → i ≡ m → get_or (set ns' i row) m [] ≡ row = λ m e. ap (λ x. get_or (set ns' i row) x []) (sym e) ∙ get_or-set_same ns' i row [] (omega (arith, K.long)) in
+      let this : (m : ℕ) → m ≡ i → get_or (set ns' i row) m [] ≡ row = λ m e. ap (λ x. get_or (set ns' i row) x []) e ∙ get_or-set_same ns' i row [] (omega (arith, K.long)) in
       let that : (m : ℕ) → m ≢ i → get_or (set ns' i row) m [] ≡ get_or ns' m [] = λ m e. get_or-set_other ns' i m row [] e in
       record {
         long = length-set ns' i row ∙ K.long;
         each_long = λ m l.
             ⊎_elim
-            (λ (e : i ≡ m). ap length (this m e) ∙ length-set (get_or ns' i []) k (slice_index_or boxes i (pos 0)) ∙ K.each_long i six)
+            (λ (e : m ≡ i). ap length (this m e) ∙ length-set (get_or ns' i []) k (slice_index_or boxes i (pos 0)) ∙ K.each_long i six)
             (λ (e : m ≢ i). ap length (that m e) ∙ K.each_long m l)
-            (same_or_not i m);
+            (cases_eq m i);
         kept = λ m l.
             ⊎_elim
-            (λ (e : i ≡ m). ap (λ r. slice_index_or r k (pos 0)) (this m e) ∙ get_or-set_same (get_or ns' i []) k (slice_index_or boxes i (pos 0)) (pos 0) (omega (arith, room, K.each_long i six)) ∙ ap (λ x. slice_index_or boxes x (pos 0)) e)
+            (λ (e : m ≡ i). ap (λ r. slice_index_or r k (pos 0)) (this m e) ∙ get_or-set_same (get_or ns' i []) k (slice_index_or boxes i (pos 0)) (pos 0) (omega (arith, room, K.each_long i six)) ∙ ap (λ x. slice_index_or boxes x (pos 0)) (sym e))
             (λ (e : m ≢ i). ap (λ r. slice_index_or r k (pos 0)) (that m e) ∙ K.kept m (omega (arith, e, l)))
-            (same_or_not i m);
+            (cases_eq m i);
         others = λ m j l apart.
             ⊎_elim
-            (λ (e : i ≡ m). ap (λ r. slice_index_or r j (pos 0)) (this m e) ∙ get_or-set_other (get_or ns' i []) k j (slice_index_or boxes i (pos 0)) (pos 0) apart ∙ ap (λ x. slice_index_or (get_or ns' x []) j (pos 0)) e ∙ K.others m j l apart)
+            (λ (e : m ≡ i). ap (λ r. slice_index_or r j (pos 0)) (this m e) ∙ get_or-set_other (get_or ns' i []) k j (slice_index_or boxes i (pos 0)) (pos 0) apart ∙ ap (λ x. slice_index_or (get_or ns' x []) j (pos 0)) (sym e) ∙ K.others m j l apart)
             (λ (e : m ≢ i). ap (λ r. slice_index_or r j (pos 0)) (that m e) ∙ K.others m j l apart)
-            (same_or_not i m);
+            (cases_eq m i);
       }
 
   module _ (all : i ≡ 6) where
@@ -130,14 +121,14 @@ glancing_more known bs n shut most least many row room here there G =
     }))
     (λ (no : least ≡ false). subst (λ b. Glancing known bs (n + 1) (shut || most) (many + cond b 1 0) (row + cond b n 0)) (sym no) (record {
       some = seen;
-      none = λ e k l. ⊎_elim (λ (e' : k ≡ n). ap (in_least known bs) e' ∙ sym there ∙ no) (λ (d : n ≢ k). G.none (omega (arith, e)) k (omega (arith, l, d))) (same_or_not k n);
+      none = λ e k l. ⊎_elim (λ (e' : k ≡ n). ap (in_least known bs) e' ∙ sym there ∙ no) (λ (d : k ≢ n). G.none (omega (arith, e)) k (omega (arith, l, d))) (cases_eq k n);
       one = λ e.
           let same : row + 0 ≡ row = omega arith in
           let before = G.one (omega (arith, e)) in (
             omega (arith, before.0),
             ap (in_least known bs) same ∙ before.1,
             λ k l apart.
-                ⊎_elim (λ (e' : k ≡ n). ap (in_least known bs) e' ∙ sym there ∙ no) (λ (d : n ≢ k). before.2 k (omega (arith, l, d)) (λ h. apart (h ∙ sym same))) (same_or_not k n),
+                ⊎_elim (λ (e' : k ≡ n). ap (in_least known bs) e' ∙ sym there ∙ no) (λ (d : k ≢ n). before.2 k (omega (arith, l, d)) (λ h. apart (h ∙ sym same))) (cases_eq k n),
           );
       fewer = omega (arith, G.fewer);
       low = omega (arith, G.low);
@@ -154,8 +145,8 @@ module _ {P : Type 0} (M : Meaning P) (R : Recording P) where
       (λ (e : i ≡ k).
       let same : x ≡ t = read ∙ get_or_default members k x t inside ∙ ap (λ n. get_or members n t) (sym e) ∙ sym is in
       subst (λ y. SpansOf M R y.point (spans_at known' i)) same (subst (SpansOf M R x.point) (sym (ap (spans_at known') e ∙ kept)) told))
-      (λ (e : k ≢ i). subst (SpansOf M R t.point) (sym (others i (λ h. e (sym h)))) (before i t (omega (arith, e, l)) is))
-      (same_or_not i k)
+      (λ (e : i ≢ k). subst (SpansOf M R t.point) (sym (others i e)) (before i t (omega (arith, e, l)) is))
+      (cases_eq i k)
 
   -- what is known of some members is known of the same, and there is as much room
   pub known_same : (ms ms' : List (Trial P)) (k k' : Known) → ms' ≡ ms → k' ≡ k → Roomy k.most × Roomy k.least × KnowsIfTold M R ms k → Roomy k'.most × Roomy k'.least × KnowsIfTold M R ms' k'
