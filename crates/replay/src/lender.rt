@@ -30,7 +30,7 @@ pub(crate) struct Lender<'a, S: Space> {
 }
 
 impl<S: Space> Lender<'_, S> {
-    // Makes a call. One that wants another number of rows than the archive's own is lent strange ones.
+    // Makes a call over as many rows as `lent` tells: the archive's own, if it has just so many, or else the first strange ones.
     fn call<A: Asked<S>>(&mut self, archive: &mut Archive<S>, ask: &A) -> Answer
         requires { length self.old.own.now ≡ archive.old.rows }
         ensures space { archive.new.space ≡ archive.old.space }
