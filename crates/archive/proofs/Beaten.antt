@@ -2,7 +2,7 @@
 use Rattle.std.proofs.Common.{◌≡◌, ℕ, zero, suc, ◌+◌, ◌<◌, Bool, true, false, cond, ◌&&◌, ◌||◌, List, [], ◌∷◌, length, get_or, Some, None, filter, sym, refl, ap, ◌∙◌, subst, ⊎_elim, arith}
 use Rattle.std.specs.Prelude.{◌≢◌, ◌==◌}
 use Rattle.std.specs.List.{position, position_from}
-use Rattle.std.proofs.lemmas.Bool.{and_from, cases_eq, cases_Bool, eqb-true}
+use Rattle.std.proofs.lemmas.Bool.{and_from, and_left, and_right, cases_eq, cases_Bool, eqb-true}
 use Rattle.std.proofs.lemmas.List.{get_or_default}
 use Rattle.std.proofs.lemmas.Iterator.Adapters.{position_from-zero}
 use Rattle.space.specs.Meaning.{Meaning}
@@ -44,10 +44,6 @@ module _ {A : Type 0} (f : A → Bool) where
 
   pub at_row : (xs : List A) (row : ℕ) (r : A) → row < length xs → r ≡ get_or xs row r → f r ≡ true → ((k : ℕ) (x : A) → k < row → x ≡ get_or xs k x → f x ≡ false) → position f xs ≡ Some row
   at_row xs row r l is e before = let z : 0 + row ≡ row = omega arith in position_from-zero f xs ∙ one_placed 0 xs row r l is e before ∙ ap Some z
-
--- a test that fails fails with another one
-pub fails_with : (a b : Bool) → a ≡ false → (a && b) ≡ false
-fails_with a b e = ap (λ x. x && b) e
 
 -- the one in this place passes, and no other does
 abbrev pub Alone : {A : Type 0} → (A → Bool) → List A → ℕ → Type 0
@@ -113,14 +109,14 @@ module _ {A : Type 0} (f : A → Bool) where
 module _ {P : Type 0} (M : Meaning P) (t : Trial P) (members : List (Trial P)) where
   -- where nobody holds the trial's box, none is beaten
   pub nobody_beaten : ((k : ℕ) (m : Trial P) → k < length members → m ≡ get_or members k m → same_box M t.point m.point ≡ false) → position (beaten M t) members ≡ None
-  nobody_beaten none = nowhere (beaten M t) members (λ k m l is. fails_with (same_box M t.point m.point) (dominates M t.point m.point) (none k m l is))
+  nobody_beaten none = nowhere (beaten M t) members (λ k m l is. and_left (same_box M t.point m.point) (dominates M t.point m.point) (none k m l is))
 
   module _ (row : ℕ) (A : Alone (λ m. same_box M t.point m.point) members row) (holder : Trial P) (is : holder ≡ get_or members row holder) where
     -- where one holds it, that one is beaten or none
     pub holder_beaten : dominates M t.point holder.point ≡ true → position (beaten M t) members ≡ Some row
     holder_beaten better =
         at_row (beaten M t) members row holder A.0 is (and_from _ _ (A.1 holder is) better)
-        (λ k m l at. fails_with (same_box M t.point m.point) (dominates M t.point m.point) (A.2 k m (omega (arith, l, A.0)) (λ e. absurd (omega (arith, l, e))) at))
+        (λ k m l at. and_left (same_box M t.point m.point) (dominates M t.point m.point) (A.2 k m (omega (arith, l, A.0)) (λ e. absurd (omega (arith, l, e))) at))
 
     pub holder_stays : dominates M t.point holder.point ≡ false → position (beaten M t) members ≡ None
     holder_stays worse =
@@ -129,7 +125,6 @@ module _ {P : Type 0} (M : Meaning P) (t : Trial P) (members : List (Trial P)) w
         ⊎_elim
         (λ (e : k ≡ row).
         let this : m ≡ holder = at ∙ ap (λ n. get_or members n m) e ∙ get_or_default members row m holder A.0 ∙ sym is in
-        ap (λ r. same_box M t.point m.point && dominates M t.point r.point) this
-        ∙ ap (λ b. same_box M t.point m.point && b) worse ∙ (elim (same_box M t.point m.point) as (λ b. (b && false) ≡ false) [ true ↦ refl | false ↦ refl ]))
-        (λ (d : k ≢ row). fails_with (same_box M t.point m.point) (dominates M t.point m.point) (A.2 k m l d at))
+        and_right (same_box M t.point m.point) (dominates M t.point m.point) (ap (λ r. dominates M t.point r.point) this ∙ worse))
+        (λ (d : k ≢ row). and_left (same_box M t.point m.point) (dominates M t.point m.point) (A.2 k m l d at))
         (cases_eq k row))

@@ -1,8 +1,8 @@
 -- What a glance at the members tells of what is to be done with a trial.
-use Rattle.std.proofs.Common.{◌≡◌, ℕ, ◌*◌, ◌<◌, Bool, true, false, ◌&&◌, not, List, length, get_or, Some, None, Result, sym, refl, ap, ◌∙◌, ⊎_elim, arith}
+use Rattle.std.proofs.Common.{◌≡◌, ℕ, ◌*◌, ◌<◌, Bool, true, false, ◌&&◌, not, List, length, get_or, Some, None, Result, sym, ap, ◌∙◌, ⊎_elim, arith}
 use Rattle.std.specs.Prelude.{◌≢◌}
 use Rattle.std.specs.List.{position}
-use Rattle.std.proofs.lemmas.Bool.{and_parts, and_from, cases_eq, cond-true, eq-eqb}
+use Rattle.std.proofs.lemmas.Bool.{and_from, and_left, and_parts, and_right, cases_eq, cond-true, eq-eqb, not_from_true}
 use Rattle.std.proofs.lemmas.List.{get_or_default}
 use Rattle.word.specs.Word.{Bytes}
 use Rattle.space.specs.Meaning.{Meaning}
@@ -25,7 +25,7 @@ use Rattle.archive.specs.Feeding.{TriedRight}
 use Rattle.archive.specs.Held.{held_by}
 use Rattle.archive.specs.Knowing.{Knows, MeetsAlone, Tells, in_least, in_most, span_at}
 use Rattle.archive.specs.Offering.{StepRight}
-use Rattle.archive.proofs.Beaten.{Alone, any_none, any_some, fails_with, holder_beaten, holder_stays, nobody_beaten}
+use Rattle.archive.proofs.Beaten.{Alone, any_none, any_some, holder_beaten, holder_stays, nobody_beaten}
 
 module _ {P : Type 0} (M : Meaning P) (t : Trial P) (members : List (Trial P)) where
   -- the decision, by what is so of the members
@@ -40,8 +40,8 @@ module _ {P : Type 0} (M : Meaning P) (t : Trial P) (members : List (Trial P)) w
       → ((k : ℕ) (m : Trial P) → k < length members → m ≡ get_or members k m → at_least M t.point m.point ≡ false) → decision M members t ≡ PassOver
   shut_decided k m inside is shut apart =
       decided false true None
-      (any_none (below M t) members (λ k m l is. fails_with (at_least M t.point m.point) (not (at_least M m.point t.point)) (apart k m l is)))
-      (nobody_beaten M t members (λ k m l is. fails_with (at_least M t.point m.point) (at_least M m.point t.point) (apart k m l is)))
+      (any_none (below M t) members (λ k m l is. and_left (at_least M t.point m.point) (not (at_least M m.point t.point)) (apart k m l is)))
+      (nobody_beaten M t members (λ k m l is. and_left (at_least M t.point m.point) (at_least M m.point t.point) (apart k m l is)))
       (any_some (shuts M t) members k m inside is shut)
 
   module _ (row : ℕ) (rival : Trial P) (is : rival ≡ get_or members row rival) (A : MeetsAlone M t row members) where
@@ -54,12 +54,12 @@ module _ {P : Type 0} (M : Meaning P) (t : Trial P) (members : List (Trial P)) w
         ⊎_elim
         (λ (e : k ≡ row).
         let same : at_least M m.point t.point ≡ true = (and_parts (at_least M t.point m.point) (at_least M m.point t.point) (A.2 m (at ∙ ap (λ n. get_or members n m) e))).1 in
-        ap (λ b. at_least M t.point m.point && not b) same ∙ (elim (at_least M t.point m.point) as (λ b. (b && false) ≡ false) [ true ↦ refl | false ↦ refl ]))
-        (λ (d : k ≢ row). fails_with (at_least M t.point m.point) (not (at_least M m.point t.point)) (A.3 k m l d at))
+        and_right (at_least M t.point m.point) (not (at_least M m.point t.point)) (not_from_true (at_least M m.point t.point) same))
+        (λ (d : k ≢ row). and_left (at_least M t.point m.point) (not (at_least M m.point t.point)) (A.3 k m l d at))
         (cases_eq k row)
 
     alone : Alone (λ m. same_box M t.point m.point) members row
-    alone = (A.1, A.2, λ k m l d at. fails_with (at_least M t.point m.point) (at_least M m.point t.point) (A.3 k m l d at))
+    alone = (A.1, A.2, λ k m l d at. and_left (at_least M t.point m.point) (at_least M m.point t.point) (A.3 k m l d at))
 
     shut_by : any (shuts M t) members ≡ true
     shut_by = any_some (shuts M t) members row rival A.1 is both.1
