@@ -1,10 +1,11 @@
 -- Which member is the first that a trial beats, by who holds its box.
-use Rattle.std.proofs.Common.{◌≡◌, ℕ, zero, suc, ◌+◌, ◌<◌, Bool, true, false, cond, ◌&&◌, ◌||◌, List, [], ◌∷◌, length, get_or, Some, None, filter, sym, refl, ap, ◌∙◌, subst, ⊎_elim, arith}
+use Rattle.std.proofs.Common.{◌≡◌, ℕ, zero, suc, ◌<◌, Bool, true, false, cond, ltb, ◌||◌, List, [], ◌∷◌, length, get_or, Some, None, filter, sym, refl, ap, ◌∙◌, subst, ⊎_elim, arith}
 use Rattle.std.specs.Prelude.{◌≢◌, ◌==◌}
-use Rattle.std.specs.List.{position, position_from}
-use Rattle.std.proofs.lemmas.Bool.{and_from, and_left, and_right, cases_eq, cases_Bool, eqb-true}
+use Rattle.std.specs.List.{position}
+use Rattle.std.proofs.lemmas.Bool.{and_from, and_left, and_right, cases_eq, cases_Bool, cond-false, cond-true, eqb-true, false_from_ne_true, le-ltb, lt-ltb}
 use Rattle.std.proofs.lemmas.List.{get_or_default}
-use Rattle.std.proofs.lemmas.Iterator.Adapters.{position_from-zero}
+use Rattle.std.proofs.lemmas.List.Folds.{list_any_at}
+use Rattle.std.proofs.lemmas.List.Sums.{position_or_len_is}
 use Rattle.space.specs.Meaning.{Meaning}
 use Rattle.space.specs.Boxes.{same_box}
 use Rattle.space.specs.Looking.{before_first, holders_of}
@@ -13,6 +14,8 @@ use Rattle.space.specs.declared.tagged.Trial.{Trial}
 use Rattle.history.specs.Comparing.{dominates}
 use Rattle.history.specs.Lists.{any}
 use Rattle.history.specs.Step.{beaten}
+use Rattle.history.proofs.Membership.{some_kept}
+use Rattle.archive.proofs.Decided.{any_listed}
 
 module _ {A : Type 0} (f : A → Bool) where
   -- by their places: none passes, one passes, and one alone does
@@ -21,43 +24,28 @@ module _ {A : Type 0} (f : A → Bool) where
   any_none (x ∷ xs) all = ap (λ b. b || any f xs) (all 0 x (omega arith) refl) ∙ any_none xs (λ k y l is. all (suc k) y (omega (arith, l)) is)
 
   pub any_some : (xs : List A) (k : ℕ) (x : A) → k < length xs → x ≡ get_or xs k x → f x ≡ true → any f xs ≡ true
-  any_some [] k x l is e = absurd (omega (arith, l))
-  any_some (y ∷ ys) zero x l is e = ap (λ b. b || any f ys) (ap f (sym is) ∙ e)
-  any_some (y ∷ ys) (suc k) x l is e = ap (λ b. f y || b) (any_some ys k x (omega (arith, l)) is e) ∙ (elim (f y) as (λ b. (b || true) ≡ true) [ true ↦ refl | false ↦ refl ])
-
-  none_placed : (n : ℕ) (xs : List A) → ((k : ℕ) (x : A) → k < length xs → x ≡ get_or xs k x → f x ≡ false) → position_from f n xs ≡ None
-  none_placed n [] all = refl
-  none_placed n (x ∷ xs) all = ap (λ b. cond b (Some n) (position_from f (n + 1) xs)) (all 0 x (omega arith) refl) ∙ none_placed (n + 1) xs (λ k y l is. all (suc k) y (omega (arith, l)) is)
-
-  one_placed : (n : ℕ) (xs : List A) (row : ℕ) (r : A) → row < length xs → r ≡ get_or xs row r → f r ≡ true → ((k : ℕ) (x : A) → k < row → x ≡ get_or xs k x → f x ≡ false) → position_from f n xs ≡ Some (n + row)
-  one_placed n [] row r l is e before = absurd (omega (arith, l))
-  one_placed n (x ∷ xs) zero r l is e before =
-      let here : n ≡ n + 0 = omega arith in
-      ap (λ b. cond b (Some n) (position_from f (n + 1) xs)) (ap f (sym is) ∙ e) ∙ ap Some here
-  one_placed n (x ∷ xs) (suc row) r l is e before =
-      let there : n + 1 + row ≡ n + suc row = omega arith in
-      ap (λ b. cond b (Some n) (position_from f (n + 1) xs)) (before 0 x (omega arith) refl)
-      ∙ one_placed (n + 1) xs row r (omega (arith, l)) is e (λ k y l' is'. before (suc k) y (omega (arith, l')) is') ∙ ap Some there
+  any_some xs k x l is e = sym (any_listed f xs) ∙ list_any_at f xs k x l (ap f (sym is) ∙ e)
 
   pub nowhere : (xs : List A) → ((k : ℕ) (x : A) → k < length xs → x ≡ get_or xs k x → f x ≡ false) → position f xs ≡ None
-  nowhere xs all = position_from-zero f xs ∙ none_placed 0 xs all
+  nowhere [] all = refl
+  nowhere (x ∷ xs) all =
+      let ys = x ∷ xs in
+      let last = position_or_len_is f ys (length ys) x (omega arith) (λ k l. all k (get_or ys k x) l (get_or_default ys k x (get_or ys k x) l)) (λ l. absurd (omega (arith, l))) in
+      ap (λ n. cond (ltb n (length ys)) (Some n) None) last ∙ cond-false (ltb (length ys) (length ys)) _ _ (le-ltb (length ys) (length ys) (omega arith))
 
   pub at_row : (xs : List A) (row : ℕ) (r : A) → row < length xs → r ≡ get_or xs row r → f r ≡ true → ((k : ℕ) (x : A) → k < row → x ≡ get_or xs k x → f x ≡ false) → position f xs ≡ Some row
-  at_row xs row r l is e before = let z : 0 + row ≡ row = omega arith in position_from-zero f xs ∙ one_placed 0 xs row r l is e before ∙ ap Some z
+  at_row xs row r l is e before =
+      let first = position_or_len_is f xs row r (omega (arith, l)) (λ k h. before k (get_or xs k r) h (get_or_default xs k r (get_or xs k r) (omega (arith, l, h)))) (λ _. ap f (sym is) ∙ e) in
+      ap (λ n. cond (ltb n (length xs)) (Some n) None) first ∙ cond-true (ltb row (length xs)) _ _ (lt-ltb row (length xs) l)
 
 -- the one in this place passes, and no other does
 abbrev pub Alone : {A : Type 0} → (A → Bool) → List A → ℕ → Type 0
 Alone {A} f xs row = (row < length xs) × ((x : A) → x ≡ get_or xs row x → f x ≡ true) × ((k : ℕ) (x : A) → k < length xs → k ≢ row → x ≡ get_or xs k x → f x ≡ false)
 
 module _ {A : Type 0} (f : A → Bool) where
-  -- where none passes, the first does not, and none of the others
-  first_fails : (y : A) (ys : List A) → length (filter f (y ∷ ys)) ≡ 0 → (f y ≡ false) × (length (filter f ys) ≡ 0)
-  first_fails y ys e₀ = (elim (f y) as (λ b. length (cond b (y ∷ filter f ys) (filter f ys)) ≡ 0 → (b ≡ false) × (length (filter f ys) ≡ 0)) [ true ↦ λ e. absurd (omega (arith, e)) | false ↦ λ e. (refl, e) ]) e₀
-
+  -- where none is kept, none passes, by their places
   none_pass : (xs : List A) → length (filter f xs) ≡ 0 → (k : ℕ) (x : A) → k < length xs → x ≡ get_or xs k x → f x ≡ false
-  none_pass [] none k x l is = absurd (omega (arith, l))
-  none_pass (y ∷ ys) none zero x l is = ap f is ∙ (first_fails y ys none).0
-  none_pass (y ∷ ys) none (suc k) x l is = none_pass ys (first_fails y ys none).1 k x (omega (arith, l)) is
+  none_pass xs none k x l is = false_from_ne_true (f x) (λ e. omega (arith, none, some_kept f xs (any_some f xs k x l is e)))
 
   other_rows : (y : A) (ys : List A) (row : ℕ) → f y ≡ false → ((k : ℕ) (x : A) → k < length ys → k ≢ row → x ≡ get_or ys k x → f x ≡ false) → (k : ℕ) (x : A) → k < length (y ∷ ys) → k ≢ suc row → x ≡ get_or (y ∷ ys) k x → f x ≡ false
   other_rows y ys row fails rest zero x l d is = ap f is ∙ fails
