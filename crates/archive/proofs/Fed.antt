@@ -1,6 +1,6 @@
 -- What holds of a feed, by its checks and by the trials of its block.
 use Rattle.std.proofs.Common.{◌≡◌, ℕ, zero, suc, ◌≤◌, eqb, List, [], ◌∷◌, map, length, take, get_or, Ok, Err, filter, Result, sym, refl, ap, ◌∙◌, arith}
-use Rattle.std.specs.Result.{IsErr, IsErrAnd, result_map_both, result_unwrap_or}
+use Rattle.std.specs.Result.{result_map_both, result_unwrap_or}
 use Rattle.std.proofs.lemmas.Bool.{cond-true, cond-false, eq-eqb, ne_eqb, false≢true}
 use Rattle.std.proofs.lemmas.List.{length-take-le}
 use Rattle.space.specs.Meaning.{Meaning, Lawful}
@@ -46,11 +46,6 @@ pub checked_few : (m : ℕ) (bs : List ℕ) (xs : List ItemAt) → checked m bs 
 checked_few m bs xs e =
     let same = ap length (records_found (header_check m bs) (records_check m (get_or bs 1 0) (room bs)) (records_of m bs) xs e) in
     omega (arith, records_few m (get_or bs 1 0) (room bs))
-
--- an error that is known is the answer
-pub refused_as : {A E : Type 0} (r : Result A E) (f : E) → IsErr r × IsErrAnd r (λ e. e ≡ f) → r ≡ Err f
-refused_as (Ok x) f h = absurd h.1
-refused_as (Err e) f h = ap (λ e. Err e) h.1
 
 module _ {P : Type 0} (M : Meaning P) (reads : List ℕ → P) (block : List ℕ) (a : Lent P) where
   -- what the checks come to
