@@ -10,14 +10,14 @@ fn byte_at(bytes: &[u8], k: usize) -> u8
 }
 
 // The number that the four bytes of place i say; bytes past the end count as 0. Most points have less than six figures: so it is asked
-// first whether there is a byte.
+// first whether there is a byte. There is none either where 4 * i is more than a number holds.
 pub fn number_at(bytes: &[u8], i: usize) -> u32
     ensures { result ≡ number_at bytes.now i }
 {
-    if bytes.len() / 4 < i {
+    let at = i.saturating_mul(4);
+    if bytes.len() <= at {
         return 0;
     }
-    let at = 4 * i;
     u32::from_be_bytes([
         byte_at(bytes, at),
         byte_at(bytes, at + 1),
