@@ -39,10 +39,10 @@ pub trait Recorded: Space {
         ensures four_each { FourEach (Self.Space.meaning self.now) (recording self.now) }
         ensures writable { as_wide (recording self.now) out.old ≡ true → WritableIfAdmitted (Self.Space.meaning self.now) (recording self.now) p.now };
 
-    // Writes the spans of p's box at the places from `at` on, if p is on the grid, the space tells spans and there are places for them. Says
-    // whether it did: what stands at those places is no answer else. Of a space that does not tell spans a feed asks for points and boxes:
-    // that takes longer, and comes to the same. They are written where they stay, since rows that are copied right after they were written
-    // number by number make the processor wait.
+    // Writes the spans of p's box at the places from `at` on, if p is on the grid, the space tells spans and there are places for them, and
+    // says whether it did. Where it answers no, what stands at those places means nothing. Of a space that does not tell spans a feed asks
+    // for points and boxes: that takes longer, and comes to the same. They are written where they stay, since rows that are copied right
+    // after they were written number by number make the processor wait.
     fn spans(&self, p: &Self::Point, at: usize, out: &mut Spans) -> bool
         ensures told { result ≡ true → SpansOf (Self.Space.meaning self.now) (recording self.now) p.now (spans_from at out.new) }
         ensures before { Alike at out.new.most out.old.most × Alike at out.new.least out.old.least }
