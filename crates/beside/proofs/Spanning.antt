@@ -13,6 +13,7 @@ use Rattle.space.specs.Spans.{Alike, SpansOf, each_in, in_span, signed_at}
 use Rattle.space.specs.declared.spans.Span.{Span}
 use Rattle.space.specs.declared.spans.Spans.{Spans}
 use Rattle.space.proofs.Looks.{each_alike}
+use Rattle.space.proofs.Tests.{and_told}
 use Rattle.beside.specs.Laws.{box_of}
 use Rattle.beside.specs.Pair.{joined, joined_bytes}
 
@@ -25,11 +26,6 @@ and_swap false false b = refl
 and_pairs : (a x b y : Bool) → ((a && x) && (b && y)) ≡ ((a && b) && (x && y))
 and_pairs false x b y = refl
 and_pairs true x b y = and_swap x b y
-
--- the second test need be known only where the first one holds
-and_told : (a x y : Bool) → (a ≡ true → x ≡ y) → (a && x) ≡ (a && y)
-and_told true x y told = told refl
-and_told false x y told = refl
 
 -- numbers are compared in front and behind
 least_parts : (a b : ℕ → ℕ) (m n : ℕ) → each_at_least (m + n) a b ≡ (each_at_least m a b && each_at_least n (λ j. a (m + j)) (λ j. b (m + j)))
