@@ -1,6 +1,8 @@
-pub mod Framing
+pub mod Boxing
+pub mod Counting
+pub mod Levelled
 pub mod Lines
 pub mod Making
 pub mod Numbering
+pub mod Scanning
 pub mod Spanning
-pub mod Seeing

@@ -1,15 +1,19 @@
 -- The box numbers of a point, objective by objective.
-use Rattle.std.proofs.Common.{◌≡◌, ℕ, zero, suc, ◌+◌, ◌<◌, ◌≤◌, List, [], ◌∷◌, map, length, set, length-set, get_or, get_or-set_same, get_or-set_other, sym, refl, ap, ◌∙◌, ⊎_elim, arith}
+use Rattle.std.proofs.Common.{◌≡◌, ℕ, zero, suc, ◌+◌, ◌<◌, ◌≤◌, true, List, [], ◌∷◌, map, length, set, length-set, get_or, get_or-set_same, get_or-set_other, sym, refl, ap, ◌∙◌, ⊎_elim, arith}
 use Rattle.std.specs.Prelude.{slice_index}
 use Rattle.std.specs.List.{range_with_len}
 use Rattle.std.proofs.lemmas.Bool.{cases_lt}
 use Rattle.std.proofs.lemmas.Grind.{same_number_lists}
 use Rattle.std.proofs.lemmas.List.{get_or-map, length-map}
 use Rattle.std.proofs.lemmas.List.FromFn.{get_or-map-range_with_len, length-map-range_with_len}
-use Rattle.grid.specs.Bits.{Bits}
+use Rattle.grid.specs.Bits.{Bits, Exact}
 use Rattle.grid.specs.Line.{Line}
 use Rattle.grid.specs.Laws.{past_the_last}
 use Rattle.grid.specs.Space.{box_at, figure_at, line_at, unused}
+
+-- a figure of no bits is zero
+pub no_bits : {F : Type 0} (B : Bits F) (v : F) → Exact B → B.holds v ≡ true → B.to v ≡ 0 → B.is_zero v ≡ true
+no_bits B v E held none = ap B.is_zero (sym (E.figure_back v held) ∙ ap B.from none ∙ E.zero_bits) ∙ E.zero_tested
 
 -- six zeros
 pub zeros : (i : ℕ) → slice_index (0 ∷ 0 ∷ 0 ∷ 0 ∷ 0 ∷ 0 ∷ []) i ≡ 0

@@ -13,7 +13,7 @@ use Rattle.grid.specs.Line.{Line}
 use Rattle.grid.specs.Ranges.{NumbersPass, box_at_least, box_at_most}
 use Rattle.grid.specs.Recorded.{figure_read, number_none, number_small}
 use Rattle.grid.specs.Space.{all_below, box_at, figure_at, grid_meaning, line_at}
-use Rattle.grid.proofs.Framing.{all_least, all_most, below_alike, boxed, nothing_past}
+use Rattle.grid.proofs.Boxing.{all_least, all_most, below_alike, below_past, boxed, nothing_past}
 use Rattle.grid.proofs.Lines.{used}
 
 -- the numbers are held against a span one by one
@@ -21,16 +21,6 @@ each_below : (k : ℕ) (s : Span) (bs : List ℕ) → each_in k s bs ≡ all_bel
 unfolding all_below
 each_below zero s bs = refl
 each_below (suc k) s bs = ap (λ x. in_span s k (signed_at bs k) && x) (each_below k s bs)
-
--- places from m on at which the test holds tell nothing
-below_past : (f : ℕ → Bool) (m n : ℕ) → m ≤ n → ((i : ℕ) → m ≤ i → i < n → f i ≡ true) → all_below f m ≡ all_below f n
-unfolding all_below
-below_past f m zero l h = let none : m ≡ 0 = omega arith in ap (all_below f) none
-below_past f m (suc n) l h =
-    ⊎_elim
-    (λ (in' : m < suc n). below_past f m n (omega arith) (λ i a b. h i a (omega arith)) ∙ ap (λ x. x && all_below f n) (sym (h n (omega arith) (omega arith))))
-    (λ (all : suc n ≤ m). let same : m ≡ suc n = omega arith in ap (all_below f) same)
-    (cases_lt m (suc n))
 
 -- the numbers from one to another say the figures at place i that pass a test by the line there and by p's box on it
 abbrev pub SpansAt : {F : Type 0} → Bits F → List (Line F) → List F → (Line F → ℕ → F → Bool) → ℕ → ℤ × ℤ → Type 0

@@ -9,5 +9,5 @@ pub mod InUse
 pub mod Tests
 pub mod Recorded
 pub mod Whole
-pub mod Frames
-pub mod Seeing
+pub mod Counts
+pub mod Levels

@@ -1,10 +1,12 @@
 // The rule of one objective: which figures are on the grid, how two compare, and which box holds one.
-ghost use Rattle.std.specs.Prelude.{◌≡◌, Bool, if◌then◌else◌, Some, None};
+ghost use Rattle.std.specs.Prelude.{◌≡◌, Bool, true, if◌then◌else◌, Some, None};
 ghost use Rattle.std.specs.Option.{option_map};
+ghost use Rattle.grid.specs.Levels.{LevelsOf};
 ghost use Rattle.grid.specs.Line.{Line, LineLawful};
 ghost use Rattle.grid.specs.Ranges.{between, box_at_least, box_at_most};
 
 use crate::figure::Figure;
+use crate::levels::Levels;
 
 pub trait Axis: Copy {
     type Figure: Figure;
@@ -51,6 +53,13 @@ pub trait Axis: Copy {
     // Those whose box number is at least n, in the same way.
     fn at_least(&self, n: u32) -> (Self::Figure, Self::Figure)
         ensures { (v : Self.Figure) → between Self.Figure.Figure.bits result v ≡ box_at_least (line self.now) n v };
+
+    // The levels of box n, if it holds a figure. A rule that knows them needs no ranges.
+    fn levels(&self, n: u32) -> Levels
+        ensures { (v : Self.Figure) → (line self.now).admits v ≡ true → (line self.now).box v ≡ n → LevelsOf Self.Figure.Figure.bits (line self.now) n result }
+    {
+        Levels::of(self.at_most(n), self.at_least(n))
+    }
 
     ghost lawful: { (a : Self) → LineLawful (line a) };
 }

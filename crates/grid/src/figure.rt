@@ -18,9 +18,9 @@ pub trait Figure: Copy {
     fn is_zero(self) -> bool
         ensures { result ≡ bits.is_zero self };
 
-    // Whether this number is at most the other.
-    fn is_at_most(self, other: Self) -> bool
-        ensures { result ≡ bits.at_most self other };
+    // The figure's rank: a signed number, the greater the greater the figure is.
+    fn rank(self) -> i32
+        ensures { result ≡ bits.rank self };
 
     // The figures from the one to the other as a range of signed numbers, which are those that their bits say: none where it is not told.
     fn span(from: Self, to: Self) -> Option<(i32, i32)>

@@ -21,8 +21,8 @@ impl Figure for i32 {
         self == 0
     }
 
-    fn is_at_most(self, other: i32) -> bool {
-        self <= other
+    fn rank(self) -> i32 {
+        self // its own rank
     }
 
     fn span(from: i32, to: i32) -> Option<(i32, i32)> {

@@ -21,8 +21,8 @@ impl Figure for u32 {
         self == 0
     }
 
-    fn is_at_most(self, other: u32) -> bool {
-        other >= self
+    fn rank(self) -> i32 {
+        (i64::from(self) - 2_147_483_648) as i32
     }
 
     // None where the greatest is no signed number, or the range is empty: no grid of the house comes to either.

@@ -1,20 +1,20 @@
 -- Boxes by their six numbers, and a look at one trial more.
-use Rattle.std.proofs.Common.{◌≡◌, ℕ, zero, suc, ◌+◌, ◌^◌, ◌%◌, ◌++◌, ◌||◌, not, add-zero, Bool, filter, sym, ◌<◌, ◌≤◌, true, false, cond, ◌&&◌, leb, List, [], ◌∷◌, length, get_or, take, Option, Some, None, refl, ap, ◌∙◌, ⊎_elim, arith}
+use Rattle.std.proofs.Common.{◌≡◌, ℕ, zero, suc, ◌+◌, ◌++◌, ◌||◌, not, add-one, add-zero, Bool, filter, sym, ◌<◌, ◌≤◌, true, false, cond, ◌&&◌, leb, List, [], ◌∷◌, length, get_or, take, Option, Some, None, refl, ap, ◌∙◌, ⊎_elim, arith}
 use Rattle.std.specs.Prelude.{◌==◌, slice_index, unwrap_or}
 use Rattle.std.specs.List.{list_any}
 use Rattle.std.proofs.lemmas.List.{length-take-le, take_more}
-use Rattle.std.proofs.lemmas.List.Filters.{length-filter_both, length-filter_more}
+use Rattle.std.proofs.lemmas.List.Filters.{length-filter_more}
 use Rattle.std.proofs.lemmas.List.Folds.{list_any_more}
 use Rattle.std.proofs.lemmas.List.FromFn.{get_or-map-range_with_len}
 use Rattle.std.proofs.lemmas.Option.{none-some, same_Some}
-use Rattle.std.proofs.lemmas.Bool.{cases_lt, cases_Bool, eqb-true}
+use Rattle.std.proofs.lemmas.Bool.{cases_lt, cases_Bool, cond-false, ne_eqb}
 use Rattle.space.specs.Meaning.{Meaning, Lawful}
-use Rattle.space.specs.Boxes.{at_least, box_dominates, boxes_on, each_at_least, same_box, six_boxes}
-use Rattle.space.specs.Looking.{before_first, holders_of, lie_of, look_of, look_on, seen_all, seen_with}
+use Rattle.space.specs.Boxes.{at_least, boxes_on, each_at_least, six_boxes}
+use Rattle.space.specs.Looking.{before_first, holders_of, holders_with, lie_of, look_by, look_of, look_on, look_with}
 use Rattle.space.specs.declared.looking.Lie.{Lie}
+use Rattle.space.specs.declared.looking.Holders.{Holders}
 use Rattle.space.specs.declared.looking.Holders.TheVariants.{Nobody, One, Several}
 use Rattle.space.specs.declared.looking.Look.{Look}
-use Rattle.space.specs.declared.looking.Looking.{Looking}
 use Rattle.space.specs.declared.tagged.Trial.{Trial}
 
 -- the same numbers compare alike
@@ -75,7 +75,7 @@ off_by M p trials e₀ =
 
 module _ {A : Type 0} (f : A → Bool) where
   -- none before the last one passes
-  before_last : (xs : List A) (x : A) → length (filter f xs) ≡ 0 → f x ≡ true → before_first f (xs ++ (x ∷ [])) ≡ length xs
+  pub before_last : (xs : List A) (x : A) → length (filter f xs) ≡ 0 → f x ≡ true → before_first f (xs ++ (x ∷ [])) ≡ length xs
   before_last [] x none e = ap (λ b. cond b 0 1) e
   before_last (y ∷ ys) x none e =
       ⊎_elim
@@ -84,95 +84,100 @@ module _ {A : Type 0} (f : A → Bool) where
       (cases_Bool (f y))
 
   -- one passes already
-  before_kept : (xs ys : List A) → 1 ≤ length (filter f xs) → before_first f (xs ++ ys) ≡ before_first f xs
+  pub before_kept : (xs ys : List A) → 1 ≤ length (filter f xs) → before_first f (xs ++ ys) ≡ before_first f xs
   before_kept [] ys some = absurd (omega (arith, some))
   before_kept (x ∷ xs) ys some₀ =
       (elim (f x) as (λ b. 1 ≤ length (cond b (x ∷ filter f xs) (filter f xs)) → cond b 0 (suc (before_first f (xs ++ ys))) ≡ cond b 0 (suc (before_first f xs))) [ true ↦ λ some. refl | false ↦ λ some. ap suc (before_kept xs ys some) ])
       some₀
 
   -- no more come before the first than there are
-  before_few : (xs : List A) → before_first f xs ≤ length xs
+  pub before_few : (xs : List A) → before_first f xs ≤ length xs
   before_few [] = omega arith
   before_few (x ∷ xs) = elim (f x) as (λ b. cond b 0 (suc (before_first f xs)) ≤ suc (length xs)) [ true ↦ omega arith | false ↦ omega (arith, before_few xs) ]
 
--- what was seen of these trials, while there are more
-pub record Seen {P : Type 0} (M : Meaning P) (p : P) (trials : List (Trial P)) (s : Looking) : Type 0 where
-  pub below : s.below ≡ list_any (λ t. box_dominates M p t.point) trials
-  pub shut : s.shut ≡ list_any (λ t. at_least M t.point p) trials
-  pub many : s.many ≡ length (filter (λ t. same_box M p t.point) trials)
-  pub none : s.many ≡ 0 → s.places ≡ 0
-  pub one : s.many ≡ 1 → s.places ≡ before_first (λ t. same_box M p t.point) trials
+-- who passes, by how many they are and the place of the first
+held : ℕ → ℕ → Holders
+held n first = cond (n == 0) Nobody (cond (n == 1) (One first) Several)
 
-module _ {P : Type 0} (M : Meaning P) (p : P) where
-  pub seen_none : (s : Looking) → s ≡ record { below = false; shut = false; many = 0; places = 0 } → Seen M p [] s
-  seen_none s e = rw e (record { below = refl; shut = refl; many = refl; none = λ e. refl; one = λ e. absurd (omega (arith, e)) })
+-- two or more are several
+held_several : (n first : ℕ) → 2 ≤ n → held n first ≡ Several
+unfolding held
+held_several n first many = cond-false (n == 0) _ _ (ne_eqb n 0 (λ e. omega arith)) ∙ cond-false (n == 1) _ _ (ne_eqb n 1 (λ e. omega arith))
 
-  -- one trial more is looked at, by how p's box lies to its box
-  pub look_with : (trials : List (Trial P)) (i : ℕ) (t : Trial P) (s : Looking) (lie : Lie) → i < length trials → length trials < 2 ^ 64 → t ≡ get_or trials i t → Seen M p (take i trials) s → lie ≡ record { over = at_least M p t.point; under = at_least M t.point p }
-      → Seen M p (take (i + 1) trials) (seen_with s i lie)
-  look_with trials i t s lie inside small read S told =
-      let f : Trial P → Bool = λ t. same_box M p t.point in
-      let first = take i trials in
-      let long : length first ≡ i = length-take-le i trials (omega (arith, inside)) in
-      let more : take (i + 1) trials ≡ first ++ (t ∷ []) = take_more trials i t inside ∙ ap (λ x. first ++ (x ∷ [])) (sym read) in
-      let few : s.many ≤ i = omega (arith, S.many, length-filter_both f (λ x. not (f x)) (λ x. refl) first, long) in
-      let count : length (filter f (take (i + 1) trials)) ≡ length (filter f first) + cond (f t) 1 0 = length-filter_more f trials i t inside ∙ ap (λ x. length (filter f first) + cond (f x) 1 0) (sym read) in
-      let same : (lie.over && lie.under) ≡ f t = ap (λ l. l.over && l.under) told in
-      let dominated : Trial P → Bool = λ t. box_dominates M p t.point in
-      let shutting : Trial P → Bool = λ t. at_least M t.point p in
-      let below : (s.below || (lie.over && not lie.under)) ≡ list_any dominated (take (i + 1) trials) =
-      ap (λ b. b || (lie.over && not lie.under)) S.below ∙ ap (λ l. list_any dominated first || (l.over && not l.under)) told
-      ∙ ap (λ x. list_any dominated first || dominated x) read ∙ sym (list_any_more dominated trials i t inside) in
-      let shut : (s.shut || lie.under) ≡ list_any shutting (take (i + 1) trials) =
-      ap (λ b. b || lie.under) S.shut ∙ ap (λ l. list_any shutting first || l.under) told
-      ∙ ap (λ x. list_any shutting first || shutting x) read ∙ sym (list_any_more shutting trials i t inside) in
+-- with one more
+held_one : (n first first' k : ℕ) → (n ≡ 0 → first' ≡ k) → held (suc n) first' ≡ holders_with (held n first) k true
+unfolding held
+held_one zero first first' k here = ap One (here refl)
+held_one (suc zero) first first' k here = refl
+held_one (suc (suc n)) first first' k here = held_several (suc (suc (suc n))) first' (omega arith) ∙ ap (λ h. holders_with h k true) (sym (held_several (suc (suc n)) first (omega arith)))
+
+-- with none
+held_same : (n first first' : ℕ) → (1 ≤ n → first' ≡ first) → held n first' ≡ held n first
+unfolding held
+held_same zero first first' here = refl
+held_same (suc n) first first' here = ap (held (suc n)) (here (omega arith))
+
+module _ {T : Type 0} (f : T → Bool) where
+  -- one more may pass, and is then alone where nobody did before
+  holders_more : (ts : List T) (i : ℕ) (t : T) → i < length ts → t ≡ get_or ts i t → holders_of f (take (i + 1) ts) ≡ holders_with (holders_of f (take i ts)) i (f t)
+  unfolding held
+  holders_more ts i t inside read =
+      let first = take i ts in
+      let n = length (filter f first) in
+      let long : length first ≡ i = length-take-le i ts (omega (arith, inside)) in
+      let more : take (i + 1) ts ≡ first ++ (t ∷ []) = take_more ts i t inside ∙ ap (λ x. first ++ (x ∷ [])) (sym read) in
+      let count : length (filter f (take (i + 1) ts)) ≡ n + cond (f t) 1 0 = length-filter_more f ts i t inside ∙ ap (λ x. n + cond (f x) 1 0) (sym read) in
       ⊎_elim
       (λ (yes : f t ≡ true).
-      let one : ◌≡◌ {A = ℕ} (cond (lie.over && lie.under) 1 0) 1 = ap (λ b. cond b 1 0) (same ∙ yes) in
-      let here : cond (lie.over && lie.under) i 0 ≡ i = ap (λ b. cond b i 0) (same ∙ yes) in
-      let counted : length (filter f (take (i + 1) trials)) ≡ length (filter f first) + 1 = count ∙ ap (λ b. length (filter f first) + cond b 1 0) yes in
-      let many : (s.many + cond (lie.over && lie.under) 1 0) % 2 ^ 64 ≡ length (filter f (take (i + 1) trials)) = omega (arith, one, counted, S.many, few, inside, small) in
-      record {
-        below = below;
-        shut = shut;
-        many = many;
-        none = λ e. absurd (omega (arith, e, many, counted));
-        one = λ e.
-            let none : s.many ≡ 0 = omega (arith, e, many, counted, S.many) in
-            let place : (s.places + cond (lie.over && lie.under) i 0) % 2 ^ 64 ≡ i = omega (arith, here, S.none none, inside, small) in
-            place ∙ sym (ap (before_first f) more ∙ before_last f first t (sym S.many ∙ none) yes ∙ long);
-      })
+      ap (λ m. held m (before_first f (take (i + 1) ts))) (count ∙ ap (λ b. n + cond b 1 0) yes ∙ add-one n)
+      ∙ held_one n (before_first f first) (before_first f (take (i + 1) ts)) i (λ none. ap (before_first f) more ∙ before_last f first t none yes ∙ long)
+      ∙ ap (holders_with (holders_of f first) i) (sym yes))
       (λ (no : f t ≡ false).
-      let none : ◌≡◌ {A = ℕ} (cond (lie.over && lie.under) 1 0) 0 = ap (λ b. cond b 1 0) (same ∙ no) in
-      let nowhere : cond (lie.over && lie.under) i 0 ≡ 0 = ap (λ b. cond b i 0) (same ∙ no) in
-      let counted : length (filter f (take (i + 1) trials)) ≡ length (filter f first) = count ∙ ap (λ b. length (filter f first) + cond b 1 0) no ∙ add-zero (length (filter f first)) in
-      let many : (s.many + cond (lie.over && lie.under) 1 0) % 2 ^ 64 ≡ length (filter f (take (i + 1) trials)) = omega (arith, none, counted, S.many, few, inside, small) in
-      record {
-        below = below;
-        shut = shut;
-        many = many;
-        none = λ e. omega (arith, nowhere, S.none (omega (arith, e, many, counted, S.many)));
-        one = λ e.
-            let before : s.many ≡ 1 = omega (arith, e, many, counted, S.many) in
-            let place : (s.places + cond (lie.over && lie.under) i 0) % 2 ^ 64 ≡ before_first f first = omega (arith, nowhere, S.one before, before_few f first, long, inside, small) in
-            place ∙ sym (ap (before_first f) more ∙ before_kept f first (t ∷ []) (omega (arith, before, S.many)));
-      })
+      ap (λ m. held m (before_first f (take (i + 1) ts))) (count ∙ ap (λ b. n + cond b 1 0) no ∙ add-zero n)
+      ∙ held_same n (before_first f first) (before_first f (take (i + 1) ts)) (λ some. ap (before_first f) more ∙ before_kept f first (t ∷ []) some)
+      ∙ ap (holders_with (holders_of f first) i) (sym no))
       (cases_Bool (f t))
 
-  -- what was seen of all of them is how p's box lies to theirs
-  pub look_all : (trials : List (Trial P)) (s : Looking) → Seen M p trials s → seen_all s ≡ look_of M p trials
-  look_all trials s S =
-      let f : Trial P → Bool = λ t. same_box M p t.point in
-      let place : cond (s.many == 1) (One s.places) Several ≡ cond (s.many == 1) (One (before_first f trials)) Several =
-      ⊎_elim
-      (λ (yes : (s.many == 1) ≡ true). ap (λ n. cond (s.many == 1) (One n) Several) (S.one (eqb-true s.many 1 yes)))
-      (λ (no : (s.many == 1) ≡ false). ap (λ b. cond b (One s.places) Several) no ∙ sym (ap (λ b. cond b (One (before_first f trials)) Several) no))
-      (cases_Bool (s.many == 1)) in
-      let held : cond (s.many == 0) Nobody (cond (s.many == 1) (One s.places) Several) ≡ holders_of f trials =
-      ap (cond (s.many == 0) Nobody) place ∙ ap (λ n. cond (n == 0) Nobody (cond (n == 1) (One (before_first f trials)) Several)) S.many in
-      let below = S.below in
-      let shut = S.shut in
-      cc
+module _ {T : Type 0} (over under : T → Bool) where
+  -- one more is looked at
+  pub look_more : (ts : List T) (i : ℕ) (t : T) (lie : Lie) → i < length ts → t ≡ get_or ts i t → lie ≡ record { over = over t; under = under t } → look_by over under (take (i + 1) ts) ≡ look_with (look_by over under (take i ts)) i lie
+  look_more ts i t lie inside read told =
+      let dominated : T → Bool = λ t. over t && not (under t) in
+      let below : list_any dominated (take (i + 1) ts) ≡ (list_any dominated (take i ts) || dominated t) = list_any_more dominated ts i t inside ∙ ap (λ x. list_any dominated (take i ts) || dominated x) (sym read) in
+      let holders = holders_more (λ t. over t && under t) ts i t inside read in
+      let shut : list_any under (take (i + 1) ts) ≡ (list_any under (take i ts) || under t) = list_any_more under ts i t inside ∙ ap (λ x. list_any under (take i ts) || under x) (sym read) in
+      let look : look_by over under (take (i + 1) ts) ≡ look_with (look_by over under (take i ts)) i (record { over = over t; under = under t }) = cc in
+      look ∙ ap (look_with (look_by over under (take i ts)) i) (sym told)
+
+-- two tests that agree on each of a list
+abbrev pub Agreeing : {T : Type 0} → (T → Bool) → (T → Bool) → List T → Type 0
+Agreeing f g ts = (i : ℕ) (t : _) → i < length ts → t ≡ get_or ts i t → f t ≡ g t
+
+module _ {T : Type 0} (f g : T → Bool) where
+  any_alike : (ts : List T) → Agreeing f g ts → list_any f ts ≡ list_any g ts
+  any_alike [] same = refl
+  any_alike (t ∷ ts) same = ap (λ b. b || list_any f ts) (same 0 t (omega arith) refl) ∙ ap (λ b. g t || b) (any_alike ts (λ i x l read. same (suc i) x (omega (arith, l)) read))
+
+  filter_alike : (ts : List T) → Agreeing f g ts → filter f ts ≡ filter g ts
+  filter_alike [] same = refl
+  filter_alike (t ∷ ts) same = ap (λ b. cond b (t ∷ filter f ts) (filter f ts)) (same 0 t (omega arith) refl) ∙ ap (λ xs. cond (g t) (t ∷ xs) xs) (filter_alike ts (λ i x l read. same (suc i) x (omega (arith, l)) read))
+
+  first_alike : (ts : List T) → Agreeing f g ts → before_first f ts ≡ before_first g ts
+  first_alike [] same = refl
+  first_alike (t ∷ ts) same = ap (λ b. cond b 0 (suc (before_first f ts))) (same 0 t (omega arith) refl) ∙ ap (λ n. cond (g t) 0 (suc n)) (first_alike ts (λ i x l read. same (suc i) x (omega (arith, l)) read))
+
+  holders_alike : (ts : List T) → Agreeing f g ts → holders_of f ts ≡ holders_of g ts
+  holders_alike ts same =
+      ap (λ xs. cond (length xs == 0) Nobody (cond (length xs == 1) (One (before_first f ts)) Several)) (filter_alike ts same)
+      ∙ ap (λ n. cond (length (filter g ts) == 0) Nobody (cond (length (filter g ts) == 1) (One n) Several)) (first_alike ts same)
+
+-- tests that agree on each of a list give the same look at it
+pub look_alike : {T : Type 0} (over under over' under' : T → Bool) (ts : List T) → Agreeing over over' ts → Agreeing under under' ts → look_by over under ts ≡ look_by over' under' ts
+look_alike over under over' under' ts o u =
+    let below = any_alike (λ t. over t && not (under t)) (λ t. over' t && not (under' t)) ts (λ i t l read. ap (λ b. b && not (under t)) (o i t l read) ∙ ap (λ b. over' t && not b) (u i t l read)) in
+    let holders = holders_alike (λ t. over t && under t) (λ t. over' t && under' t) ts (λ i t l read. ap (λ b. b && under t) (o i t l read) ∙ ap (λ b. over' t && b) (u i t l read)) in
+    let shut = any_alike under under' ts u in
+    cc
 
 module _ {P : Type 0} (M : Meaning P) (L : Lawful M) where
   six_at_least : (p q : P) → each_at_least 6 (slice_index (six_boxes M p)) (slice_index (six_boxes M q)) ≡ at_least M p q
@@ -188,6 +193,8 @@ module _ {P : Type 0} (M : Meaning P) (L : Lawful M) where
       cc
 
   -- one trial more is looked at, by the numbers of both boxes
-  pub look_more : (p : P) (trials : List (Trial P)) (i : ℕ) (t : Trial P) (s : Looking) (lie : Lie) (mine theirs : List ℕ) → i < length trials → length trials < 2 ^ 64 → t ≡ get_or trials i t → Seen M p (take i trials) s → mine ≡ six_boxes M p → theirs ≡ six_boxes M t.point → lie ≡ lie_of mine theirs
-      → Seen M p (take (i + 1) trials) (seen_with s i lie)
-  look_more p trials i t s lie mine theirs inside small read so_far ours asked told = look_with M p trials i t s lie inside small read so_far (lies p t.point mine theirs lie ours asked told)
+  pub more_by_numbers : (p : P) (trials : List (Trial P)) (i : ℕ) (t : Trial P) (look next : Look) (lie : Lie) (mine theirs : List ℕ) → i < length trials → t ≡ get_or trials i t → look ≡ look_of M p (take i trials) → mine ≡ six_boxes M p → theirs ≡ six_boxes M t.point → lie ≡ lie_of mine theirs → next ≡ look_with look i lie
+      → next ≡ look_of M p (take (i + 1) trials)
+  more_by_numbers p trials i t look next lie mine theirs inside read so_far ours asked told step =
+      step ∙ ap (λ l. look_with l i lie) so_far
+      ∙ sym (look_more (λ q. at_least M p q.point) (λ q. at_least M q.point p) trials i t lie inside read (lies p t.point mine theirs lie ours asked told))

@@ -11,7 +11,7 @@ mod spans;
 mod tagged;
 
 pub use figures::number_at;
-pub use looking::{Holders, Lie, Look, Looking};
+pub use looking::{Holders, Lie, Look, look_one_by_one};
 pub use meaning::{Space, six_boxes};
 pub use recording::{Recorded, Unread, Unwritten, blank, point_bytes, read_or_blank};
 pub use refusal::{BadGrid, TooMany};

@@ -1,6 +1,10 @@
 // How a box lies to another, and to those of some trials: what an offer has to know of the members.
-ghost use Rattle.std.specs.Prelude.{◌≡◌};
-ghost use Rattle.space.specs.Looking.{lie_of, seen_all, seen_with};
+ghost use Rattle.std.specs.Prelude.{◌≡◌, ℕ, List, Option};
+ghost use Rattle.space.specs.Boxes.{boxes_on, six_boxes};
+ghost use Rattle.space.specs.Looking.{lie_of, look_at_none, look_of, look_with};
+ghost use Rattle.space.specs.Meaning.{Meaning, Lawful};
+
+use crate::tagged::Trial;
 
 // How a box lies to another: whether it is at least as great in every objective, and whether the other is.
 #[derive(Clone, Copy, PartialEq, Eq, Debug)]
@@ -42,42 +46,50 @@ pub struct Look {
     pub shut: bool,
 }
 
-// What was seen of some trials, while there are more: of those that have the point's box, how many they are and the sum of their places,
-// which is the place of the one where there is one alone. No trial waits for another one: so the compiler looks at several at a time.
-#[derive(Clone, Copy, PartialEq, Eq, Debug, Default)]
-pub struct Looking {
-    pub(crate) below: bool,
-    pub(crate) shut: bool,
-    pub(crate) many: usize,
-    pub(crate) places: usize,
-}
-
-impl Looking {
-    // What was seen, and one trial more, at place k, whose box the point's box lies to so.
-    pub fn with(self, k: usize, lie: Lie) -> Looking
-        ensures { result ≡ seen_with self k lie }
-    {
-        let same = lie.over & lie.under;
-        Looking {
-            below: self.below | (lie.over & !lie.under),
-            shut: self.shut | lie.under,
-            many: self.many.wrapping_add(same as usize),
-            places: self.places.wrapping_add(if same { k } else { 0 }),
-        }
-    }
-
-    // What was seen of all.
-    pub fn end(self) -> Look
-        ensures { result ≡ seen_all self }
+impl Look {
+    // A look at no trial.
+    pub fn nothing() -> Look
+        ensures { result ≡ look_at_none }
     {
         Look {
-            below: self.below,
-            holders: match self.many {
-                0 => Holders::Nobody,
-                1 => Holders::One(self.places),
-                _ => Holders::Several,
-            },
-            shut: self.shut,
+            below: false,
+            holders: Holders::Nobody,
+            shut: false,
         }
     }
+
+    // What a look tells with one trial more, at place k, whose box the point's box lies to so.
+    pub fn with(self, k: usize, lie: Lie) -> Look
+        ensures { result ≡ look_with self k lie }
+    {
+        Look {
+            below: self.below | (lie.over & !lie.under),
+            holders: match (lie.over & lie.under, self.holders) {
+                (false, holders) => holders,
+                (true, Holders::Nobody) => Holders::One(k),
+                (true, _) => Holders::Several,
+            },
+            shut: self.shut | lie.under,
+        }
+    }
+}
+
+// How a box lies to those of these trials, asked for one by one; off the grid a point has none, and counts as one of zeros. A space that
+// looks faster in the usual case falls back on this.
+pub fn look_one_by_one<P, F: Fn(&P) -> Option<[u32; 6]>>(
+    mine: &[u32; 6],
+    trials: &[Trial<P>],
+    boxes: F,
+) -> Look
+    requires { F.IsAlwaysCallable boxes }
+    ensures { (M : Meaning P) (p : P) → Lawful M → mine.now ≡ six_boxes M p
+        → ((q : _) (asked : Option (List ℕ)) → F.post boxes q asked → asked ≡ boxes_on M q.now)
+        → result ≡ look_of M p trials.now }
+{
+    let mut look = Look::nothing();
+    for (k, trial) in trials.iter().enumerate() {
+        let theirs = boxes(&trial.point).unwrap_or([0; 6]);
+        look = look.with(k, Lie::of(mine, &theirs));
+    }
+    look
 }

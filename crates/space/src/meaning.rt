@@ -5,7 +5,7 @@ ghost use Rattle.space.specs.Boxes.{boxes_on, six_boxes};
 ghost use Rattle.space.specs.Looking.{look_on};
 ghost use Rattle.space.specs.Meaning.{Meaning, Lawful};
 
-use crate::looking::{Lie, Look, Looking};
+use crate::looking::{Look, look_one_by_one};
 use crate::tagged::Trial;
 use std::array;
 
@@ -54,12 +54,7 @@ pub trait Space {
         ensures { result ≡ look_on (meaning self.now) p.now trials.now }
     {
         let mine = self.boxes(p)?;
-        let mut looking = Looking::default();
-        for (k, trial) in trials.iter().enumerate() {
-            let theirs = self.boxes(&trial.point).unwrap_or([0; 6]);
-            looking = looking.with(k, Lie::of(&mine, &theirs));
-        }
-        Some(looking.end())
+        Some(look_one_by_one(&mine, trials, |q| self.boxes(q)))
     }
 
     ghost lawful: { (s : Self) → Lawful (meaning s) };

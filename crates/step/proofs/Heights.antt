@@ -1,6 +1,6 @@
 -- Boxes and figures by heights.
 use Rattle.std.proofs.Common.{◌≡◌, ℕ, ◌+◌, ◌-◌, ◌*◌, ◌/◌, ◌≤◌, Bool, true, false, cond, ◌&&◌, min, refl, sym, ap, ◌∙◌, arith}
-use Rattle.std.specs.Prelude.{ℤ, pos, negsuc, ◌-ℤ◌, ◌≤ℤ◌, int_le, nat_le, nat_lt, unsigned_abs}
+use Rattle.std.specs.Prelude.{ℤ, pos, negsuc, ◌+ℤ◌, ◌-ℤ◌, ◌≤ℤ◌, int_le, nat_le, nat_lt, unsigned_abs}
 use Rattle.std.specs.Int.{int_max, int_min}
 use Rattle.std.specs.Cmp.{both_ways}
 use Rattle.std.proofs.Math.Bool.{and_comm}
@@ -75,3 +75,35 @@ whole_steps n m step k same e =
     let both = and_parts (nat_le (n * step) m) (nat_lt (m - n * step) step) e in
     let within : n * step + (m - n * step) ≡ k = omega (arith, same, leb-true (n * step) m both.0) in
     sym (div-mul-add n step (m - n * step) (leb-true _ _ both.1)) ∙ ap (λ x. x / step) within
+
+-- a level is a height above the lowest: it is one of the grid, past a bound or short of one where the height is
+pub grid_by_level : (lowest highest level z : ℤ) (way : ℕ) → level ≡ lowest +ℤ z → highest ≡ lowest +ℤ pos way → (int_le lowest level && int_le level highest) ≡ (int_le (pos 0) z && int_le z (pos way))
+grid_by_level lowest highest level z way e f = grind (arith, ints)
+
+pub top_by_level : (lowest level z : ℤ) (h : ℕ) → level ≡ lowest +ℤ z → int_le level (lowest +ℤ pos h) ≡ int_le z (pos h)
+top_by_level lowest level z h e = grind (arith, ints)
+
+pub bottom_by_level : (lowest level z : ℤ) (h : ℕ) → level ≡ lowest +ℤ z → int_le (lowest +ℤ pos h) level ≡ int_le (pos h) z
+bottom_by_level lowest level z h e = grind (arith, ints)
+
+-- a fact beside a true one
+and_true : (b : Bool) → (b && true) ≡ b
+and_true true = refl
+and_true false = refl
+
+-- of the heights on the grid those below the next box are of boxes up to n
+pub top_tells : (z : ℤ) (step n way : ℕ) → 1 ≤ step → (int_le (pos 0) z && int_le z (pos way)) ≡ true → int_le z (pos (min ((n + 1) * step - 1) way)) ≡ nat_le (unsigned_abs z / step) n
+top_tells z step n way some on =
+    let zero = (and_parts (int_le (pos 0) z) (int_le z (pos way)) on).0 in
+    let told = heights_up_to z step n way some in
+    sym (ap (λ b. b && int_le z (pos (min ((n + 1) * step - 1) way))) zero) ∙ told ∙ ap (λ b. b && nat_le (unsigned_abs z / step) n) on
+
+-- and those from box n on of boxes from it on, where the grid has a height of box n
+pub bottom_tells : (z x : ℤ) (step n way : ℕ) → 1 ≤ step → (int_le (pos 0) z && int_le z (pos way)) ≡ true → (int_le (pos 0) x && int_le x (pos way)) ≡ true → unsigned_abs x / step ≡ n → int_le (pos (min (n * step) way)) z ≡ nat_le n (unsigned_abs z / step)
+bottom_tells z x step n way some on on' box =
+    let there = and_parts (int_le (pos (n * step)) x) (int_le x (pos way)) (heights_from x step n way some ∙ ap (λ b. b && nat_le n (unsigned_abs x / step)) on' ∙ le-leb n (unsigned_abs x / step) (omega (arith, box))) in
+    let within : n * step ≤ way = grind (arith, ints, there.0, there.1) in
+    let least : min (n * step) way ≡ n * step = omega (arith, within) in
+    let past = (and_parts (int_le (pos 0) z) (int_le z (pos way)) on).1 in
+    let told = heights_from z step n way some in
+    ap (λ h. int_le (pos h) z) least ∙ sym (ap (λ b. int_le (pos (n * step)) z && b) past ∙ and_true (int_le (pos (n * step)) z)) ∙ told ∙ ap (λ b. b && nat_le n (unsigned_abs z / step)) on

@@ -1,4 +1,5 @@
 pub mod Direction
+pub mod Levels
 pub mod Rule
 pub mod Space
 pub mod Laws

@@ -4,7 +4,7 @@ ghost use Rattle.step.specs.Rule.{step_sound, step_line};
 ghost use Rattle.step.specs.Laws.{step_lawful};
 
 use crate::scaling::Scale;
-use grid::{Axis, Grid};
+use grid::{Axis, Grid, Levels};
 
 // A sound scale, with what a height is multiplied by for a guess at its box.
 #[derive(Clone, Copy)]
@@ -74,5 +74,9 @@ impl Axis for StepAxis {
 
     fn at_least(&self, n: u32) -> (i32, i32) {
         self.scale.at_least(n)
+    }
+
+    fn levels(&self, n: u32) -> Levels {
+        self.scale.levels(n)
     }
 }

@@ -1,9 +1,13 @@
 // The numbers that a step rule is made from.
 ghost use Rattle.std.specs.Prelude.{◌≡◌, ◌+◌, ◌-◌, ◌*◌, ◌≤◌, true, ◌&&◌, ℤ, pos, negsuc, ◌+ℤ◌, ◌-ℤ◌, ◌≤ℤ◌, int_le, nat_le, nat_lt, unsigned_abs};
 ghost use Rattle.grid.specs.Bits.{signed_bits};
+ghost use Rattle.grid.specs.Levels.{LevelsOf};
 ghost use Rattle.grid.specs.Ranges.{between, box_at_least, box_at_most};
 ghost use Rattle.step.specs.Direction.{direction_number};
+ghost use Rattle.step.specs.Levels.{levels_above};
 ghost use Rattle.step.specs.Rule.{height, box_of, extent_of, on_grid, step_sound, step_line};
+
+use grid::Levels;
 
 // Which figures are better.
 #[derive(Clone, Copy, PartialEq, Eq, Debug)]
@@ -144,4 +148,41 @@ impl Scale {
     {
         self.figures(u64::from(n) * u64::from(self.step), u64::from(self.span()))
     }
+
+    // The levels of box n, which a height is counted on to from the lowest: no range is looked for.
+    pub(crate) fn levels(&self, n: u32) -> Levels
+        requires { step_sound self.now ≡ true }
+        ensures { (v : ℤ) → (step_line self.now).admits v ≡ true → (step_line self.now).box v ≡ n → LevelsOf signed_bits (step_line self.now) n result }
+    {
+        match self.direction {
+            Direction::LargerIsBetter => self.levels_from(n, false, self.low, self.high),
+            Direction::SmallerIsBetter => self.levels_from(n, true, -1 - self.high, -1 - self.low),
+        }
+    }
+
+    // The same, where the levels on the grid are these.
+    fn levels_from(&self, n: u32, turned: bool, lowest: i32, highest: i32) -> Levels
+        requires sound { step_sound self.now ≡ true }
+        requires way { highest ≡ lowest +ℤ (self.now.high -ℤ self.now.low) }
+        ensures { result ≡ levels_above self.now n turned lowest highest }
+    {
+        let way = u64::from(self.span());
+        let from = u64::from(n) * u64::from(self.step);
+        let next = (u64::from(n) + 1) * u64::from(self.step);
+        Levels {
+            turned,
+            lowest,
+            highest,
+            bottom: above(lowest, from.min(way)),
+            top: above(lowest, (next - 1).min(way)),
+        }
+    }
+}
+
+// The level so far above the lowest.
+fn above(lowest: i32, distance: u64) -> i32
+    requires { (distance ≤ 4294967295) × ((lowest +ℤ pos distance) ≤ℤ pos 2147483647) }
+    ensures { result ≡ lowest +ℤ pos distance }
+{
+    (i64::from(lowest) + distance as i64) as i32
 }

@@ -1,14 +1,15 @@
 // The six questions, asked of the rules in use.
 ghost use Rattle.std.specs.Prelude.{◌≡◌, map, take};
 ghost use Rattle.std.proofs.Common.{arith};
+ghost use Rattle.space.specs.Boxes.{boxes_on};
 ghost use Rattle.grid.specs.InUse.{lawful_rules};
 ghost use Rattle.grid.specs.Whole.{meaning_by};
 
 use crate::axis::Axis;
 use crate::compare::{admits, box_number, boxes, covers, extent, no_worse};
-use crate::frame::look;
+use crate::looking::look_on_grid;
 use crate::whole::Grid;
-use space::{Look, Space, Trial};
+use space::{Look, Space, Trial, look_one_by_one};
 
 impl<A: Axis> Grid<A> {
     // The rules in use, one an objective.
@@ -59,6 +60,16 @@ impl<A: Axis> Space for Grid<A> {
     }
 
     fn look(&self, p: &[A::Figure; 6], trials: &[Trial<[A::Figure; 6]>]) -> Option<Look> {
-        look(self.rules(), p, trials)
+        let numbers = self.boxes(p)?;
+        match look_on_grid(self.rules(), &numbers, trials) {
+            Some(look) => Some(look),
+            None => Some(look_one_by_one(
+                &numbers,
+                trials,
+                |q: &[A::Figure; 6]| -> Option<[u32; 6]>
+                    ensures { result ≡ boxes_on (meaning_by A.Figure.Figure.bits A.Axis.line self.entry.now) q.now }
+                { self.boxes(q) },
+            )),
+        }
     }
 }
