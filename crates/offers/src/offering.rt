@@ -4,7 +4,7 @@ ghost use Rattle.std.specs.Prelude.{◌≡◌, take};
 use crate::asked::{Asked, Objectives};
 use crate::chance::{Chance, HIGHEST, Point};
 use crate::told::{Told, Verdicts, sum_of_tags};
-use anyhow::{Result, anyhow};
+use anyhow::{Result, anyhow, bail};
 use archive::Archive;
 use space::Trial;
 use std::alloc::Global;
@@ -44,7 +44,9 @@ pub(crate) fn offer_all(heap: Global, asked: Asked) -> Result<Told> {
             point: chance.point(asked.objectives),
             tag,
         };
-        verdicts.count(archive.offer(trial, &mut rows, &mut displaced))?;
+        if let Err(denial) = verdicts.count(archive.offer(trial, &mut rows, &mut displaced)) {
+            bail!("an offer is denied {}", denial.number());
+        }
     }
     let members = members_of(&archive, &rows);
     Ok(Told {

@@ -1,6 +1,5 @@
 // What came of the offers, as it is printed.
 use crate::chance::Point;
-use anyhow::{Result, bail};
 use history::{Denial, Offered, Verdict};
 use space::Trial;
 use std::fmt;
@@ -17,13 +16,14 @@ pub(crate) struct Verdicts {
 }
 
 impl Verdicts {
-    // Counts the answer to one offer. No other denial can come, since the rows and the list are the archive's own.
-    pub(crate) fn count(&mut self, answer: Result<Offered, Denial>) -> Result<()> {
+    // Counts the answer to one offer, or hands back a denial that is not counted: none comes, since the rows and the list are the archive's
+    // own. It is no error with a text yet: to make room for one takes as long as a look at some members.
+    pub(crate) fn count(&mut self, answer: Result<Offered, Denial>) -> Result<(), Denial> {
         let counted = match answer {
             Ok(offered) => self.of_verdict(offered.verdict),
             Err(Denial::OffGrid) => &mut self.off_grid,
             Err(Denial::Full) => &mut self.full,
-            Err(denial) => bail!("an offer is denied {}", denial.number()),
+            Err(denial) => return Err(denial),
         };
         *counted = counted.saturating_add(1);
         Ok(())
