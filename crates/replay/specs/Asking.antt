@@ -9,7 +9,7 @@ use Rattle.replay.specs.declared.asking.RecordedAsk.{RecordedAsk}
 use Rattle.replay.specs.declared.asking.RecordedAsk.TheVariants as recorded
 use Rattle.replay.specs.declared.asking.Turn.{Turn}
 
--- how many rows: the archive's own, or else as many strange ones as there are
+-- how many rows: as many as the archive's own, or else as many as are wanted, of which no more are lent than there are strange ones
 abbrev pub lent_of : ℕ → ℕ → ℕ → ℕ
 lent_of own other want = cond (want == own) own (min want other)
 

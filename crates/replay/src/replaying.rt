@@ -57,7 +57,8 @@ fn play_listed<S: Space>(
 }
 
 // Makes an archive of the space over its own rows, runs the calls on it and writes the answer of each beside it. A call that
-// asks for another number of rows is lent strange ones instead.
+// asks for another number of rows is lent so many strange ones, or all of them where there are fewer; where these are as many as its own,
+// its own.
 pub fn replay<S: Space>(
     space: S,
     own: &mut [Trial<S::Point>],
