@@ -141,6 +141,10 @@ class LogRow:
         return self.measured.plain.processor / self.measured.product.processor
 
     @property
+    def memory_ratio(self):
+        return self.measured.plain.memory / self.measured.product.memory
+
+    @property
     def name(self):
         return f"{self.kind} {self.size}"
 
@@ -382,6 +386,7 @@ def print_logs(rows):
             "Product, by the clock",
             "Plain, peak MB",
             "Product, peak MB",
+            "Ratio of peaks",
         ],
         [
             [
@@ -395,6 +400,7 @@ def print_logs(rows):
                 f"{row.measured.product.wall:.3f}",
                 f"{row.measured.plain.memory:.1f}",
                 f"{row.measured.product.memory:.1f}",
+                f"{row.memory_ratio:.2f}",
             ]
             for row in rows
         ],
