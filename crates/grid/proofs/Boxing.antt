@@ -2,7 +2,7 @@
 use Rattle.std.proofs.Common.{◌≡◌, ℕ, zero, suc, ◌+◌, ◌<◌, ◌≤◌, Bool, true, false, cond, ◌&&◌, leb, List, length, sym, refl, ap, ◌∙◌, ⊎_elim, add-one, arith}
 use Rattle.std.proofs.lemmas.Bool.{cases_lt, cond-true}
 use Rattle.space.specs.Boxes.{at_least, each_at_least}
-use Rattle.space.proofs.Looks.{none_past}
+use Rattle.space.proofs.Looks.{each_alike, none_past}
 use Rattle.space.proofs.Tests.{and_told}
 use Rattle.grid.specs.Bits.{Bits}
 use Rattle.grid.specs.Line.{Line}
@@ -26,8 +26,8 @@ below_more f n =
     ∙ ap (all_below f) (sym (add-one n))
 
 -- the place at hand passes too, or not
-pub turn : (f : ℕ → Bool) (i : ℕ) (acc x : Bool) → acc ≡ all_below f i → x ≡ f i → (acc && x) ≡ all_below f (i + 1)
-turn f i acc x so_far here = ap (λ a. a && x) so_far ∙ ap (λ y. all_below f i && y) here ∙ below_more f i
+pub below_next : (f : ℕ → Bool) (i : ℕ) (acc x : Bool) → acc ≡ all_below f i → x ≡ f i → (acc && x) ≡ all_below f (i + 1)
+below_next f i acc x so_far here = ap (λ a. a && x) so_far ∙ ap (λ y. all_below f i && y) here ∙ below_more f i
 
 -- the same tests, place by place
 pub below_alike : (f g : ℕ → Bool) (n : ℕ) → ((k : ℕ) → k < n → f k ≡ g k) → all_below f n ≡ all_below g n
@@ -65,6 +65,10 @@ unfolding all_below
 below_each a b zero = refl
 below_each a b (suc n) = ap (λ x. leb (b n) (a n) && x) (below_each a b n)
 
+-- and so they are where they are told by others
+compared : (a b a' b' : ℕ → ℕ) (n : ℕ) → ((i : ℕ) → i < n → a i ≡ a' i) → ((i : ℕ) → i < n → b i ≡ b' i) → all_below (λ i. leb (b i) (a i)) n ≡ each_at_least n a' b'
+compared a b a' b' n ea eb = below_each a b n ∙ each_alike n a b a' b' ea eb
+
 module _ {F : Type 0} (B : Bits F) (lines : List (Line F)) (few : length lines ≤ 6) where
   -- past the last objective all numbers are zero
   pub nothing_past : (x : List F) (i : ℕ) → length lines ≤ i → (grid_meaning B lines).box i x ≡ 0
@@ -77,35 +81,27 @@ module _ {F : Type 0} (B : Bits F) (lines : List (Line F)) (few : length lines �
     pub boxed : (grid_meaning B lines).admits q ≡ true → (i : ℕ) → box_at B lines q i ≡ (grid_meaning B lines).box i q
     boxed on i = sym (cond-true ((grid_meaning B lines).admits q) (box_at B lines q i) 0 on)
 
+    -- on the grid the boxes compare as the numbers on the lines do, in all objectives and any places past them
+    pub over_places : (n : ℕ) → length lines ≤ n → (grid_meaning B lines).admits q ≡ true → all_below (λ i. leb (box_at B lines q i) ((grid_meaning B lines).box i p)) n ≡ at_least (grid_meaning B lines) p q
+    over_places n enough on =
+        let M = grid_meaning B lines in
+        compared (λ i. M.box i p) (box_at B lines q) (λ i. M.box i p) (λ i. M.box i q) n (λ i l. refl) (λ i l. boxed on i) ∙ none_past M nothing_past p q n enough
+
+    pub under_places : (n : ℕ) → length lines ≤ n → (grid_meaning B lines).admits q ≡ true → all_below (λ i. leb ((grid_meaning B lines).box i p) (box_at B lines q i)) n ≡ at_least (grid_meaning B lines) q p
+    under_places n enough on =
+        let M = grid_meaning B lines in
+        compared (box_at B lines q) (λ i. M.box i p) (λ i. M.box i q) (λ i. M.box i p) n (λ i l. boxed on i) (λ i l. refl) ∙ none_past M nothing_past q p n enough
+
     -- the figures of q are of boxes up to those of p where q is on the grid and p's box is at least its box
     pub all_most : all_below (λ i. box_at_most (line_at B lines i) ((grid_meaning B lines).box i p) (figure_at B q i)) 6 ≡ ((grid_meaning B lines).admits q && at_least (grid_meaning B lines) p q)
     all_most =
         let M = grid_meaning B lines in
         below_both (admits_at B lines q) (λ i. leb (box_at B lines q i) (M.box i p)) 6
-        ∙ and_told (M.admits q) (all_below (λ i. leb (box_at B lines q i) (M.box i p)) 6) (at_least M p q)
-        (λ on.
-        below_alike (λ i. leb (box_at B lines q i) (M.box i p)) (λ i. leb (M.box i q) (M.box i p)) 6 (λ i l. ap (λ b. leb b (M.box i p)) (boxed on i))
-        ∙ below_each (λ i. M.box i p) (λ i. M.box i q) 6 ∙ none_past M nothing_past p q 6 few)
+        ∙ and_told (M.admits q) (all_below (λ i. leb (box_at B lines q i) (M.box i p)) 6) (at_least M p q) (over_places 6 few)
 
     -- and of boxes from those of p on where its box is at least p's
     pub all_least : all_below (λ i. box_at_least (line_at B lines i) ((grid_meaning B lines).box i p) (figure_at B q i)) 6 ≡ ((grid_meaning B lines).admits q && at_least (grid_meaning B lines) q p)
     all_least =
         let M = grid_meaning B lines in
         below_both (admits_at B lines q) (λ i. leb (M.box i p) (box_at B lines q i)) 6
-        ∙ and_told (M.admits q) (all_below (λ i. leb (M.box i p) (box_at B lines q i)) 6) (at_least M q p)
-        (λ on.
-        below_alike (λ i. leb (M.box i p) (box_at B lines q i)) (λ i. leb (M.box i p) (M.box i q)) 6 (λ i l. ap (leb (M.box i p)) (boxed on i))
-        ∙ below_each (λ i. M.box i q) (λ i. M.box i p) 6 ∙ none_past M nothing_past q p 6 few)
-
-    -- on the grid the boxes compare as the numbers on the lines do
-    pub over_places : (N : ℕ) → length lines ≡ N → (grid_meaning B lines).admits q ≡ true → all_below (λ i. leb (box_at B lines q i) ((grid_meaning B lines).box i p)) N ≡ at_least (grid_meaning B lines) p q
-    over_places N all on =
-        let M = grid_meaning B lines in
-        below_alike (λ i. leb (box_at B lines q i) (M.box i p)) (λ i. leb (M.box i q) (M.box i p)) N (λ i l. ap (λ b. leb b (M.box i p)) (boxed on i))
-        ∙ below_each (λ i. M.box i p) (λ i. M.box i q) N ∙ ap (λ k. each_at_least k (λ i. M.box i p) (λ i. M.box i q)) (sym all)
-
-    pub under_places : (N : ℕ) → length lines ≡ N → (grid_meaning B lines).admits q ≡ true → all_below (λ i. leb ((grid_meaning B lines).box i p) (box_at B lines q i)) N ≡ at_least (grid_meaning B lines) q p
-    under_places N all on =
-        let M = grid_meaning B lines in
-        below_alike (λ i. leb (M.box i p) (box_at B lines q i)) (λ i. leb (M.box i p) (M.box i q)) N (λ i l. ap (leb (M.box i p)) (boxed on i))
-        ∙ below_each (λ i. M.box i q) (λ i. M.box i p) N ∙ ap (λ k. each_at_least k (λ i. M.box i q) (λ i. M.box i p)) (sym all)
+        ∙ and_told (M.admits q) (all_below (λ i. leb (M.box i p) (box_at B lines q i)) 6) (at_least M q p) (under_places 6 few)

@@ -1,7 +1,7 @@
 -- What levels tell of figures.
 use Rattle.std.proofs.Common.{◌≡◌, ℕ, ◌+◌, ◌<◌, ◌≤◌, Bool, true, false, ◌&&◌, ◌||◌, leb, List, map, length, get_or, set, get_or-set_other, get_or-set_same, subst, sym, ap, ◌∙◌, ⊎_elim, arith}
 use Rattle.std.specs.Prelude.{ℤ, int_le}
-use Rattle.std.proofs.Math.Bool.{and_comm}
+use Rattle.std.proofs.Math.Bool.{and_comm, or_comm}
 use Rattle.std.proofs.lemmas.Int.{ints}
 use Rattle.std.proofs.lemmas.Bool.{and_parts, cases_lt, le-leb, or_cases}
 use Rattle.std.proofs.lemmas.List.{get_or-map}
@@ -22,9 +22,6 @@ pub record Halves {F : Type 0} (B : Bits F) (below above : F → Bool) (L : Leve
 -- two ranges of numbers that meet: from the first of the one to the last of the other each number is in one of them, and one end tells of each
 either_range : (a b c d x v : ℤ) → (int_le a x && int_le x b) ≡ true → (int_le c x && int_le x d) ≡ true → (int_le a v && int_le v d) ≡ true → ((int_le a v && int_le v b) || (int_le c v && int_le v d)) ≡ true
 either_range a b c d x v one two on = grind (arith, ints)
-
-either_turned : (a b c d x v : ℤ) → (int_le a x && int_le x b) ≡ true → (int_le c x && int_le x d) ≡ true → (int_le c v && int_le v b) ≡ true → ((int_le a v && int_le v b) || (int_le c v && int_le v d)) ≡ true
-either_turned a b c d x v one two on = grind (arith, ints)
 
 first_range : (a b d v : ℤ) → (int_le a v && int_le v d) ≡ true → int_le v b ≡ (int_le a v && int_le v b)
 first_range a b d v on = grind (arith, ints)
@@ -68,7 +65,7 @@ module _ {F : Type 0} (B : Bits F) (E : Exact B) where
     pub turned_halves : Halves B (between B (a, b)) (between B (c, d)) (record { turned = true; lowest = turned (B.rank b); highest = turned (B.rank c); bottom = turned (B.rank d); top = turned (B.rank a) })
     turned_halves = record {
       either = λ v on.
-          in_either v (either_turned (B.rank a) (B.rank b) (B.rank c) (B.rank d) (B.rank x) (B.rank v) (sym (ranks a b x) ∙ one) (sym (ranks c d x) ∙ two) (turn_on (B.rank b) (B.rank c) (B.rank v) on));
+          in_either v (or_comm (int_le (B.rank a) (B.rank v) && int_le (B.rank v) (B.rank b)) (int_le (B.rank c) (B.rank v) && int_le (B.rank v) (B.rank d)) ∙ either_range (B.rank c) (B.rank d) (B.rank a) (B.rank b) (B.rank x) (B.rank v) (sym (ranks c d x) ∙ two) (sym (ranks a b x) ∙ one) (turn_on (B.rank b) (B.rank c) (B.rank v) on));
       most = λ v on. turn_first (B.rank a) (B.rank b) (B.rank c) (B.rank v) (turn_on (B.rank b) (B.rank c) (B.rank v) on) ∙ sym (ranks a b v);
       least = λ v on. turn_second (B.rank b) (B.rank c) (B.rank d) (B.rank v) (turn_on (B.rank b) (B.rank c) (B.rank v) on) ∙ sym (ranks c d v);
     }

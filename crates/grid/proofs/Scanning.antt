@@ -19,7 +19,7 @@ use Rattle.grid.specs.Line.{Line}
 use Rattle.grid.specs.Space.{admits_at, all_below, box_at, figure_at, grid_meaning, line_at}
 use Rattle.grid.specs.Tests.{all_below_each, all_below_from}
 use Rattle.grid.specs.declared.levels.Levels.{Levels}
-use Rattle.grid.proofs.Boxing.{below_alike, below_none, over_places, turn, under_places}
+use Rattle.grid.proofs.Boxing.{below_alike, below_none, over_places, below_next, under_places}
 
 -- one trial more passes
 pub all_more : {T : Type 0} (f : T → Bool) (ts : List T) (k : ℕ) (d : T) → k < length ts → list_all f (take k ts) ≡ true → f (get_or ts k d) ≡ true → list_all f (take (k + 1) ts) ≡ true
@@ -31,8 +31,8 @@ all_from f [] each = refl
 all_from f (t ∷ ts) each = and_from (f t) (list_all f ts) (each 0 t (omega arith) refl) (all_from f ts (λ k u l read. each (suc k) u (omega (arith, l)) read))
 
 -- as many, counted on
-pub next : {T : Type 0} (f : T → Bool) (ts : List T) (k i : ℕ) → list_all f (take (k + i + 1) ts) ≡ true → list_all f (take (k + (i + 1)) ts) ≡ true
-next f ts k i all = let on : k + (i + 1) ≡ k + i + 1 = omega arith in ap (λ n. list_all f (take n ts)) on ∙ all
+pub take_next : {T : Type 0} (f : T → Bool) (ts : List T) (k i : ℕ) → list_all f (take (k + i + 1) ts) ≡ true → list_all f (take (k + (i + 1)) ts) ≡ true
+take_next f ts k i all = let on : k + (i + 1) ≡ k + i + 1 = omega arith in ap (λ n. list_all f (take n ts)) on ∙ all
 
 -- what passes for all of these passes for each of them
 each_listed : {T : Type 0} (f : T → Bool) (ts : List T) (i : ℕ) (t : T) → i < length ts → t ≡ get_or ts i t → list_all f ts ≡ true → f t ≡ true
@@ -86,8 +86,8 @@ module _ {F : Type 0} (B : Bits F) (levels : List Levels) (q : List F) (lowest�
       let high_here : slice_index_or (set highest i b) i (pos 0) ≡ b = get_or-set_same highest i b (pos 0) (omega (arith, six, H.long_high)) in
       let was = H.rest i (omega arith) in
       record {
-        most = em ∙ ap (λ z. bit_or z (cond x 1 0)) H.most ∙ missed_more (all_below tops i) x ∙ ap (λ b. cond b 0 1) (turn tops i (all_below tops i) (not x) refl ex);
-        least = en ∙ ap (λ z. bit_or z (cond y 1 0)) H.least ∙ missed_more (all_below bottoms i) y ∙ ap (λ b. cond b 0 1) (turn bottoms i (all_below bottoms i) (not y) refl ey);
+        most = em ∙ ap (λ z. bit_or z (cond x 1 0)) H.most ∙ missed_more (all_below tops i) x ∙ ap (λ b. cond b 0 1) (below_next tops i (all_below tops i) (not x) refl ex);
+        least = en ∙ ap (λ z. bit_or z (cond y 1 0)) H.least ∙ missed_more (all_below bottoms i) y ∙ ap (λ b. cond b 0 1) (below_next bottoms i (all_below bottoms i) (not y) refl ey);
         reach = record {
           low = λ k l.
               ⊎_elim
@@ -161,13 +161,13 @@ module _ {F : Type 0} (B : Bits F) (lines : List (Line F)) (few : length lines �
     over_told =
         below_alike (λ i. up_to B (levels_at levels i) (figure_at B q i)) (λ i. leb (box_at B lines q i) ((grid_meaning B lines).box i p)) N
         (λ i l. (levelled i l).most (figure_at B q i) (on_at i l) ∙ ap (leb (box_at B lines q i)) (number i l))
-        ∙ over_places B lines few p q N all on_it
+        ∙ over_places B lines few p q N (omega (arith, all)) on_it
 
     under_told : each_place B from_on levels q N ≡ at_least (grid_meaning B lines) q p
     under_told =
         below_alike (λ i. from_on B (levels_at levels i) (figure_at B q i)) (λ i. leb ((grid_meaning B lines).box i p) (box_at B lines q i)) N
         (λ i l. (levelled i l).least (figure_at B q i) (on_at i l) ∙ ap (λ n. leb n (box_at B lines q i)) (number i l))
-        ∙ under_places B lines few p q N all on_it
+        ∙ under_places B lines few p q N (omega (arith, all)) on_it
 
   -- so a look by levels is a look at the boxes
   pub scanned : (trials : List (Trial (List F))) → list_all (λ t. zero_from B N t.point) trials ≡ true → list_all (λ t. each_place B on_grid levels t.point N) trials ≡ true

@@ -49,7 +49,8 @@ fn all_zero_past<F: Figure, const N: usize>(trials: &[Trial<[F; 6]>]) -> bool
 }
 
 // Holds q's figures in the first N objectives against the levels, and widens the reach of the levels seen so far at each of these places, from
-// the lowest to the highest. None waits for another one; in line, so that the compiler knows it.
+// the lowest to the highest. No place waits for another one. It has to be in line, so that the compiler has no loop over the places and holds
+// several trials at a time.
 #[inline(always)]
 fn hold<F: Figure, const N: usize>(
     levels: &[Levels; 6],

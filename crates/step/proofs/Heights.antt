@@ -86,11 +86,6 @@ top_by_level lowest level z h e = grind (arith, ints)
 pub bottom_by_level : (lowest level z : ℤ) (h : ℕ) → level ≡ lowest +ℤ z → int_le (lowest +ℤ pos h) level ≡ int_le (pos h) z
 bottom_by_level lowest level z h e = grind (arith, ints)
 
--- a fact beside a true one
-and_true : (b : Bool) → (b && true) ≡ b
-and_true true = refl
-and_true false = refl
-
 -- of the heights on the grid those below the next box are of boxes up to n
 pub top_tells : (z : ℤ) (step n way : ℕ) → 1 ≤ step → (int_le (pos 0) z && int_le z (pos way)) ≡ true → int_le z (pos (min ((n + 1) * step - 1) way)) ≡ nat_le (unsigned_abs z / step) n
 top_tells z step n way some on =
@@ -106,4 +101,4 @@ bottom_tells z x step n way some on on' box =
     let least : min (n * step) way ≡ n * step = omega (arith, within) in
     let past = (and_parts (int_le (pos 0) z) (int_le z (pos way)) on).1 in
     let told = heights_from z step n way some in
-    ap (λ h. int_le (pos h) z) least ∙ sym (ap (λ b. int_le (pos (n * step)) z && b) past ∙ and_true (int_le (pos (n * step)) z)) ∙ told ∙ ap (λ b. b && nat_le n (unsigned_abs z / step)) on
+    ap (λ h. int_le (pos h) z) least ∙ sym (ap (λ b. int_le (pos (n * step)) z && b) past ∙ and_comm (int_le (pos (n * step)) z) true) ∙ told ∙ ap (λ b. b && nat_le n (unsigned_abs z / step)) on

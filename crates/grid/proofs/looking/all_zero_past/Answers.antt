@@ -6,7 +6,7 @@ use Rattle.std.proofs.lemmas.List.{get_or-drop, get_or-take, length-drop, take_a
 use Rattle.space.specs.declared.tagged.Trial.{Trial}
 use Rattle.grid.specs.Bytes.{zero_from}
 use Rattle.grid.proofs.Numbering.{zeros}
-use Rattle.grid.proofs.Scanning.{all_more, next}
+use Rattle.grid.proofs.Scanning.{all_more, take_next}
 use Rattle.grid.proofs.looking.all_zero_past.Goals as goal
 
 pub loop-k-preserved : goal.loop-k-preserved
@@ -23,8 +23,8 @@ loop-k-preserved g c =
           let first = c.add_past.ensures second.0 in
           let one = all_more zero ts k c.index-trials-k.result (omega (arith, enough)) (c.loop-k.invariant.1 first.0) first.1 in
           let two = all_more zero ts (k + 1) c.index-trials-k-in-loop-k.result (omega (arith, enough)) one second.1 in
-          let three = all_more zero ts (k + 2) c.index-trials-k-in-loop-k-2.result (omega (arith, enough)) (next zero ts k 1 two) third.1 in
-          next zero ts k 3 (all_more zero ts (k + 3) c.index-trials-k-in-loop-k-3.result (omega (arith, enough)) (next zero ts k 2 three) fourth.1),
+          let three = all_more zero ts (k + 2) c.index-trials-k-in-loop-k-2.result (omega (arith, enough)) (take_next zero ts k 1 two) third.1 in
+          take_next zero ts k 3 (all_more zero ts (k + 3) c.index-trials-k-in-loop-k-3.result (omega (arith, enough)) (take_next zero ts k 2 three) fourth.1),
     )
 
 pub loop-trial-preserved : goal.loop-trial-preserved
@@ -37,7 +37,7 @@ loop-trial-preserved g c =
     let told = c.add_past-in-loop-trial.ensures none in
     let inside : i < length ts - k = omega (arith, c.loop-trial-test.true, length-drop k ts) in
     let read = c.trial-item.is ∙ get_or-take (length ts - k) (drop k ts) i c.trial-item.result inside ∙ get_or-drop k ts i c.trial-item.result in
-    next zero ts k i (all_more zero ts (k + i) c.trial-item.result (omega (arith, inside)) (c.loop-trial.invariant told.0) (ap zero (sym read) ∙ told.1))
+    take_next zero ts k i (all_more zero ts (k + i) c.trial-item.result (omega (arith, inside)) (c.loop-trial.invariant told.0) (ap zero (sym read) ∙ told.1))
 
 pub returns : goal.returns
 returns g c =
