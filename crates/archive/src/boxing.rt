@@ -44,7 +44,7 @@ impl<'a, S: Space> Boxed<'a, S> {
     pub(crate) fn lie(&self, q: &S::Point) -> Lie
         ensures { result ≡ record { over = at_least (S.Space.meaning self.now.space.now) self.now.trial.point q.now; under = at_least (S.Space.meaning self.now.space.now) q.now self.now.trial.point } }
     {
-        Lie::of(&self.numbers, &six_boxes(self.space, q))
+        self.space.lie(&self.numbers, q)
     }
 
     // Whether this trial's box dominates the member's.

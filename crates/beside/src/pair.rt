@@ -8,7 +8,7 @@ ghost use Rattle.beside.specs.Rows.{row_joined};
 ghost use Rattle.beside.specs.Laws.{lawful_pair};
 ghost use Rattle.beside.specs.Recorded.{faithful_pair};
 
-use space::{Recorded, Space, Spans, TooMany, Unread, Unwritten, blank, read_or_blank};
+use space::{Lie, Recorded, Space, Spans, TooMany, Unread, Unwritten, blank, read_or_blank};
 
 // Two spaces, the first one's objectives in front.
 #[derive(Clone, Copy, Drop)]
@@ -112,6 +112,10 @@ impl<A: Space, B: Space> Space for Beside<A, B> {
         } else {
             None
         }
+    }
+
+    fn lie(&self, mine: &[u32; 6], p: &(A::Point, B::Point)) -> Lie {
+        Lie::of(mine, &self.boxes(p).unwrap_or([0; 6]))
     }
 
     fn covers(&self, p: &(A::Point, B::Point), q: &(A::Point, B::Point)) -> bool {

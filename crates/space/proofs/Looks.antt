@@ -10,7 +10,7 @@ use Rattle.std.proofs.lemmas.Option.{none-some, same_Some}
 use Rattle.std.proofs.lemmas.Bool.{cases_lt, cases_Bool, cond-false, ne_eqb}
 use Rattle.space.specs.Meaning.{Meaning, Lawful}
 use Rattle.space.specs.Boxes.{at_least, boxes_on, each_at_least, six_boxes}
-use Rattle.space.specs.Looking.{before_first, holders_of, holders_with, lie_of, look_by, look_of, look_on, look_with}
+use Rattle.space.specs.Looking.{before_first, holders_of, holders_with, lie_between, lie_of, look_by, look_of, look_on, look_with}
 use Rattle.space.specs.declared.looking.Lie.{Lie}
 use Rattle.space.specs.declared.looking.Holders.{Holders}
 use Rattle.space.specs.declared.looking.Holders.TheVariants.{Nobody, One, Several}
@@ -179,6 +179,11 @@ look_alike over under over' under' ts o u =
     let shut = any_alike under under' ts u in
     cc
 
+-- one trial more is looked at, by how the box lies to its box
+pub more_by_lie : {P : Type 0} (M : Meaning P) (p : P) (trials : List (Trial P)) (i : ℕ) (t : Trial P) (look next : Look) (lie : Lie) → i < length trials → t ≡ get_or trials i t → look ≡ look_of M p (take i trials) → lie ≡ lie_between M p t.point → next ≡ look_with look i lie → next ≡ look_of M p (take (i + 1) trials)
+more_by_lie M p trials i t look next lie inside read so_far told step =
+    step ∙ ap (λ l. look_with l i lie) so_far ∙ sym (look_more (λ q. at_least M p q.point) (λ q. at_least M q.point p) trials i t lie inside read told)
+
 module _ {P : Type 0} (M : Meaning P) (L : Lawful M) where
   six_at_least : (p q : P) → each_at_least 6 (slice_index (six_boxes M p)) (slice_index (six_boxes M q)) ≡ at_least M p q
   six_at_least p q =
@@ -186,15 +191,18 @@ module _ {P : Type 0} (M : Meaning P) (L : Lawful M) where
       ∙ none_past M L.outside_box p q 6 L.few.1
 
   -- by their numbers, two boxes lie to one another as by their points
-  pub lies : (p q : P) (mine theirs : List ℕ) (lie : Lie) → mine ≡ six_boxes M p → theirs ≡ six_boxes M q → lie ≡ lie_of mine theirs → lie ≡ record { over = at_least M p q; under = at_least M q p }
+  pub lies : (p q : P) (mine theirs : List ℕ) (lie : Lie) → mine ≡ six_boxes M p → theirs ≡ six_boxes M q → lie ≡ lie_of mine theirs → lie ≡ lie_between M p q
   lies p q mine theirs lie ours asked told =
       let over = six_at_least p q in
       let under = six_at_least q p in
       cc
 
+  -- the numbers of the other being asked at once, with zeros off the grid
+  pub lies_at_once : (p q : P) (mine theirs : List ℕ) (asked : Option (List ℕ)) (lie : Lie) → mine ≡ six_boxes M p → asked ≡ boxes_on M q → theirs ≡ unwrap_or asked (0 ∷ 0 ∷ 0 ∷ 0 ∷ 0 ∷ 0 ∷ []) → lie ≡ lie_of mine theirs → lie ≡ lie_between M p q
+  lies_at_once p q mine theirs asked lie ours told got by = lies p q mine theirs lie ours (or_zeros M q (L.off_grid q) asked theirs told got) by
+
   -- one trial more is looked at, by the numbers of both boxes
   pub more_by_numbers : (p : P) (trials : List (Trial P)) (i : ℕ) (t : Trial P) (look next : Look) (lie : Lie) (mine theirs : List ℕ) → i < length trials → t ≡ get_or trials i t → look ≡ look_of M p (take i trials) → mine ≡ six_boxes M p → theirs ≡ six_boxes M t.point → lie ≡ lie_of mine theirs → next ≡ look_with look i lie
       → next ≡ look_of M p (take (i + 1) trials)
   more_by_numbers p trials i t look next lie mine theirs inside read so_far ours asked told step =
-      step ∙ ap (λ l. look_with l i lie) so_far
-      ∙ sym (look_more (λ q. at_least M p q.point) (λ q. at_least M q.point p) trials i t lie inside read (lies p t.point mine theirs lie ours asked told))
+      more_by_lie M p trials i t look next lie inside read so_far (lies p t.point mine theirs lie ours asked told) step

@@ -13,6 +13,10 @@ use Rattle.space.specs.declared.tagged.Trial.{Trial}
 abbrev pub lie_of : List ℕ → List ℕ → Lie
 lie_of mine theirs = record { over = each_at_least 6 (slice_index mine) (slice_index theirs); under = each_at_least 6 (slice_index theirs) (slice_index mine) }
 
+-- p's box to q's
+abbrev pub lie_between : {P : Type 0} → Meaning P → P → P → Lie
+lie_between M p q = record { over = at_least M p q; under = at_least M q p }
+
 -- how many of these come before the first that passes the test
 abbrev pub before_first : {A : Type 0} → (A → Bool) → List A → ℕ
 before_first f [] = 0

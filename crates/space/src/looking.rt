@@ -1,7 +1,7 @@
 // How a box lies to another, and to those of some trials: what an offer has to know of the members.
 ghost use Rattle.std.specs.Prelude.{◌≡◌, ℕ, List, Option};
 ghost use Rattle.space.specs.Boxes.{boxes_on, six_boxes};
-ghost use Rattle.space.specs.Looking.{lie_of, look_at_none, look_of, look_with};
+ghost use Rattle.space.specs.Looking.{lie_between, lie_of, look_at_none, look_of, look_with};
 ghost use Rattle.space.specs.Meaning.{Meaning, Lawful};
 
 use crate::tagged::Trial;
@@ -72,6 +72,18 @@ impl Look {
             shut: self.shut | lie.under,
         }
     }
+}
+
+// How a box lies to those of these trials, by how it lies to each.
+pub(crate) fn look_by_lies<P, F: Fn(&P) -> Lie>(trials: &[Trial<P>], lie: F) -> Look
+    requires { F.IsAlwaysCallable lie }
+    ensures { (M : Meaning P) (p : P) → ((q : _) (told : _) → F.post lie q told → told ≡ lie_between M p q.now) → result ≡ look_of M p trials.now }
+{
+    let mut seen = Look::nothing();
+    for (k, trial) in trials.iter().enumerate() {
+        seen = seen.with(k, lie(&trial.point));
+    }
+    seen
 }
 
 // How a box lies to those of these trials, asked for one by one; off the grid a point has none, and counts as one of zeros. A space that

@@ -1,11 +1,11 @@
-// A space of points: six questions that each read one part of its meaning, refuse nothing and change nothing. Two more put several
+// A space of points: six questions that each read one part of its meaning, refuse nothing and change nothing. Three more put several
 // of them at once; every space has them from the six, and may answer them faster.
 ghost use Rattle.std.specs.Prelude.{◌≡◌};
 ghost use Rattle.space.specs.Boxes.{boxes_on, six_boxes};
-ghost use Rattle.space.specs.Looking.{look_on};
+ghost use Rattle.space.specs.Looking.{lie_between, look_on};
 ghost use Rattle.space.specs.Meaning.{Meaning, Lawful};
 
-use crate::looking::{Look, look_one_by_one};
+use crate::looking::{Lie, Look, look_by_lies};
 use crate::tagged::Trial;
 use std::array;
 
@@ -43,10 +43,31 @@ pub trait Space {
         ensures { result ≡ boxes_on (meaning self.now) p.now }
     {
         if self.admits(p) {
-            Some(array::from_fn(|i| self.box_number(i, p)))
+            let used = self.objectives();
+            Some(array::from_fn(|i| if i < used { self.box_number(i, p) } else { 0 }))
         } else {
             None
         }
+    }
+
+    // How the box of a point, which has these six numbers, lies to p's. Its numbers are asked one by one, and no more once nothing is open.
+    fn lie(&self, mine: &[u32; 6], p: &Self::Point) -> Lie
+        ensures { (q : Self.Point) → mine.now ≡ six_boxes (meaning self.now) q → result ≡ lie_between (meaning self.now) q p.now }
+    {
+        let mut over = true;
+        let mut under = true;
+        for i in 0..self.objectives() {
+            let theirs = self.box_number(i, p);
+            over &= theirs <= mine[i];
+            under &= mine[i] <= theirs;
+            if !over && !under {
+                return Lie {
+                    over: false,
+                    under: false,
+                };
+            }
+        }
+        Lie { over, under }
     }
 
     // How p's box lies to those of these trials, if p is on the grid.
@@ -54,7 +75,7 @@ pub trait Space {
         ensures { result ≡ look_on (meaning self.now) p.now trials.now }
     {
         let mine = self.boxes(p)?;
-        Some(look_one_by_one(&mine, trials, |q| self.boxes(q)))
+        Some(look_by_lies(trials, |q| self.lie(&mine, q)))
     }
 
     ghost lawful: { (s : Self) → Lawful (meaning s) };

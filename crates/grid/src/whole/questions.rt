@@ -9,7 +9,7 @@ use crate::axis::Axis;
 use crate::compare::{admits, box_number, boxes, covers, extent, no_worse};
 use crate::looking::look_on_grid;
 use crate::whole::Grid;
-use space::{Look, Space, Trial, look_one_by_one};
+use space::{Lie, Look, Space, Trial, look_one_by_one};
 
 impl<A: Axis> Grid<A> {
     // The rules in use, one an objective.
@@ -57,6 +57,10 @@ impl<A: Axis> Space for Grid<A> {
 
     fn boxes(&self, p: &[A::Figure; 6]) -> Option<[u32; 6]> {
         boxes(self.rules(), p)
+    }
+
+    fn lie(&self, mine: &[u32; 6], p: &[A::Figure; 6]) -> Lie {
+        Lie::of(mine, &self.boxes(p).unwrap_or([0; 6]))
     }
 
     fn look(&self, p: &[A::Figure; 6], trials: &[Trial<[A::Figure; 6]>]) -> Option<Look> {
