@@ -151,3 +151,8 @@ module _ {P : Type 0} (M : Meaning P) (R : Recording P) where
   -- what is known of some members is known of the same, and there is as much room
   pub known_same : (ms ms' : List (Trial P)) (k k' : Known) → ms' ≡ ms → k' ≡ k → Roomy k.most × Roomy k.least × KnowsIfTold M R ms k → Roomy k'.most × Roomy k'.least × KnowsIfTold M R ms' k'
   known_same ms ms' k k' em ek known = rw (em, ek) known
+
+  -- once nothing is known any more, there is as much room
+  pub known_nothing : (ms : List (Trial P)) (k k' : Known) → (k'.most ≡ k.most) × (k'.least ≡ k.least) × (k'.told ≡ false) → Roomy k.most × Roomy k.least → Roomy k'.most × Roomy k'.least × KnowsIfTold M R ms k'
+  known_nothing ms k k' e room =
+      (subst Roomy (sym e.0) room.0, subst Roomy (sym e.1) room.1, λ told. absurd (false≢true (sym e.2 ∙ told)))

@@ -5,7 +5,7 @@ ghost use Rattle.log_block.specs.Reading.{left_to_read, seen_at};
 ghost use Rattle.history.specs.BlockTrials.{trials_of};
 ghost use Rattle.archive.specs.Feeding.{FeedRight, TakenRight, TriedRight};
 ghost use Rattle.archive.specs.Held.{held_by};
-ghost use Rattle.archive.specs.Knowing.{KnowsIfTold, MeetsAlone};
+ghost use Rattle.archive.specs.Knowing.{KnowsIfTold, MeetsAlone, Roomy};
 ghost use Rattle.archive.specs.Lent.{lending};
 
 use crate::boxing::dominates;
@@ -95,10 +95,38 @@ fn take_record<S: Recorded>(
     }
 }
 
-// All records of a block, in order.
+// After so many records in a row of which none entered, more of the kind are likely, and the spans of all members are worth asking.
+const IDLE: usize = 4;
+
+// Where a block has a record for so many members at least, the spans are worth asking for its first trial.
+const MEMBERS_A_RECORD: usize = 8;
+
+// Learns the spans of the members for this record, if it is a trial, they are not known, and it is worth it.
+fn prepare<S: Recorded>(
+    space: &S,
+    placed: &Placed<'_>,
+    idle: usize,
+    known: &mut Known,
+    members: &[Trial<S::Point>],
+)
+    requires room { Roomy known.old.most × Roomy known.old.least }
+    requires known { KnowsIfTold (S.Space.meaning space.now) (S.Recorded.recording space.now) members.now known.old }
+    ensures room { Roomy known.new.most × Roomy known.new.least }
+    ensures known { KnowsIfTold (S.Space.meaning space.now) (S.Recorded.recording space.now) members.now known.new }
+{
+    if let Record::Trial { .. } = placed.record
+        && idle >= IDLE
+        && !known.is_told()
+    {
+        known.learn(space, members);
+    }
+}
+
+// All records of a block, in order. How many the block says they are decides alone how soon the spans of the members are asked.
 fn take_records<S: Recorded>(
     space: &S,
     records: Records<'_>,
+    count: u8,
     members: &mut Members<'_, S::Point>,
 ) -> Fed
     requires known { members.old.count ≤ 4096 }
@@ -106,12 +134,16 @@ fn take_records<S: Recorded>(
     ensures { TakenRight (S.Space.meaning space.now) (trials_of (read_point (S.Recorded.recording space.now)) (left_to_read records.entry)) members.old result members.new }
 {
     let mut known = Known::nothing();
-    known.learn(space, members.as_slice());
+    let worth = members.count <= MEMBERS_A_RECORD * usize::from(count);
+    let mut idle = if worth { IDLE } else { 0 };
     let mut fed = Fed::default();
     for placed in records {
+        prepare(space, &placed, idle, &mut known, members.as_slice());
         let came = take_record(space, placed, &known, members);
+        idle = idle.saturating_add(1);
         if came.entered > 0 {
-            known.learn(space, members.as_slice());
+            known.forget();
+            idle = 0;
         }
         fed = fed.saturating_add(came);
     }
@@ -133,7 +165,8 @@ impl<S: Recorded> Archive<S> {
             rows,
             count: self.count,
         };
-        let fed = take_records(&self.space, records, &mut members);
+        let count = block.get(1).copied().unwrap_or(0);
+        let fed = take_records(&self.space, records, count, &mut members);
         self.count = members.count;
         Ok(fed)
     }

@@ -1,6 +1,6 @@
-// What is known of the members while a block is fed. A block has many trials, and each is compared with every member: so the spans of the
-// members' boxes are asked once for all of them, and again only when a trial has entered. A trial is held against them by its bytes, as
-// they stand in the block.
+// What is known of the members while a block is fed. Most blocks have many trials, and each is compared with every member: so the spans of
+// the members' boxes are asked once for many of them. A trial is held against them by its bytes, as they stand in the block. To ask the spans
+// takes longer than a look or two: so they are asked where trials enough may be held against them, and not after each trial that enters.
 ghost use Rattle.std.specs.Prelude.{◌≡◌, ℕ, ◌<◌, ◌≤◌, ◌≢◌, true, false, List, map, length};
 ghost use Rattle.std.specs.List.{range_with_len};
 ghost use Rattle.space.specs.Spans.{each_in, signed_at};
@@ -119,13 +119,27 @@ impl Known {
         }
     }
 
+    // Whether the spans are known.
+    pub(crate) fn is_told(&self) -> bool
+        ensures { result ≡ self.now.told }
+    {
+        self.told
+    }
+
+    // Nothing is known any more, once the members have changed.
+    pub(crate) fn forget(&mut self)
+        ensures { (self.new.most ≡ self.old.most) × (self.new.least ≡ self.old.least) × (self.new.told ≡ false) }
+    {
+        self.told = false;
+    }
+
     // Learns the spans of these members, if the space tells them and there is room for all.
     pub(crate) fn learn<S: Recorded>(&mut self, space: &S, members: &[Trial<S::Point>])
         requires { Roomy self.old.most × Roomy self.old.least }
         ensures room { Roomy self.new.most × Roomy self.new.least }
         ensures known { KnowsIfTold (S.Space.meaning space.now) (S.Recorded.recording space.now) members.now self.new }
     {
-        self.told = false;
+        self.forget();
         if members.len() > MOST {
             return;
         }

@@ -1,9 +1,12 @@
-use Rattle.std.proofs.Common.{refl, ◌∙◌, arith}
+use Rattle.std.proofs.Common.{refl, subst, sym, ◌∙◌, arith}
+use Rattle.archive.specs.Knowing.{Roomy}
 use Rattle.archive.proofs.Known.{known_more}
 use Rattle.archive.proofs.knowing.Known.learn.Goals as goal
 
 pub loop-k-init : goal.loop-k-init
-loop-k-init g c = (c.requires.0, c.requires.1, refl, refl, c.objectives-self.ensures, λ i t l. absurd (omega (arith, l)))
+loop-k-init g c =
+    let F = c.forget.ensures in
+    (subst Roomy (sym F.0) c.requires.0, subst Roomy (sym F.1) c.requires.1, F.2, refl, c.objectives-self.ensures, λ i t l. absurd (omega (arith, l)))
 
 pub keep-requires : goal.keep-requires
 keep-requires g c = (omega (arith, c.loop-k-test.true, c.if-members-gt-MOST.false), c.loop-k.invariant.0, c.loop-k.invariant.1)
