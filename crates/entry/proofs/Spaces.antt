@@ -68,3 +68,7 @@ few_after f (b ∷ bs) =
 
 pub fields_few : (bs : List ℕ) → length (fields bs) ≤ length bs
 fields_few bs = omega (arith, few_after [] bs)
+
+-- nor are there more fields, with three before them, than bytes
+pub three_before : (bs one two three a b c : List ℕ) → fields bs ≡ a ∷ fields one → fields one ≡ b ∷ fields two → fields two ≡ c ∷ fields three → 3 + length (fields three) ≤ length bs
+three_before bs one two three a b c ea eb ec = omega (arith, fields_few bs, ap length ea, ap length eb, ap length ec)

@@ -21,9 +21,18 @@ fn read_fields(line: &[u8]) -> Result<Entry, Malformed>
     ensures { result ≡ entry_of_fields (fields line.now) }
 {
     let mut fields = Fields { rest: line };
-    match (fields.next(), fields.next(), fields.next(), fields.next()) {
-        (Some(tag), Some(delay), Some(life), None) => read_three(tag, delay, life),
-        _ => Err(Malformed::Fields(Fields { rest: line }.count())),
+    let Some(tag) = fields.next() else {
+        return Err(Malformed::Fields(0));
+    };
+    let Some(delay) = fields.next() else {
+        return Err(Malformed::Fields(1));
+    };
+    let Some(life) = fields.next() else {
+        return Err(Malformed::Fields(2));
+    };
+    match fields.count() {
+        0 => read_three(tag, delay, life),
+        more => Err(Malformed::Fields(3 + more)),
     }
 }
 
